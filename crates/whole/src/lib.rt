@@ -1,0 +1,1 @@
+// Signed whole numbers: the leaves of the hot path.
