@@ -1,1 +1,5 @@
-// Signed whole numbers: the leaves of the hot path.
+// Signed whole numbers: the leaves of the hot path. Each names its one answer by a definition of specs/; none loops.
+// They are helpers for the crates above, not calls of the product.
+pub mod limiting;
+pub mod products;
+pub mod rounding;
