@@ -31,5 +31,5 @@ negℤ-*ℤ a b = eq-by (neg (var a) ⊗ var b) (neg (var a ⊗ var b)) (omega a
 pub *ℤ-negℤ : (a b : ℤ) → a *ℤ negℤ b ≡ negℤ (a *ℤ b)
 *ℤ-negℤ a b = eq-by (var a ⊗ neg (var b)) (neg (var a ⊗ var b)) (omega arith)
 
-pub -ℤ-self : (a : ℤ) → a -ℤ a ≡ pos 0
--ℤ-self a = eq-by (var a ⊖ var a) (lit 0) (omega arith)
+pub minus-self : (a : ℤ) → a -ℤ a ≡ pos 0
+minus-self a = eq-by (var a ⊖ var a) (lit 0) (omega arith)

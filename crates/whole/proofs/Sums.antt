@@ -3,8 +3,11 @@ use mathlib.Core.Path.{_≡_, refl, sym, ap, ap₂, _∙_}
 use Prim.Native.Nat.{ℕ, zero, suc, _+_, _*_, _≤_, _<_}
 use native.Mathlib.Nat.{le-refl, le-trans, add-le-add, lt-suc-self, zero-mul, add-mul, mul-le-mul-left}
 use native.Mathlib.Omega.{arith}
-use lib.IntN.{ℤ, pos, negℤ, natAbs, _+ℤ_, _-ℤ_, _*ℤ_, +ℤ-idr, *ℤ-zero}
+use lib.IntN.{ℤ, pos, negℤ, natAbs, _+ℤ_, _-ℤ_, _*ℤ_, +ℤ-idl, +ℤ-idr, *ℤ-zero}
 use lib.Signed.{_≤ℤ_, ≤ℤ-refl}
+use lib.Dec.{eqb}
+use mathlib.Core.Bool.{Bool, true, false}
+use borrow.Author.Tests.{eqb-true, eqb-false}
 use Rattle.whole.specs.Sum.{sum, sumℕ}
 use Rattle.whole.proofs.Signed.{up, down, var, lit, neg, _⊕_, _⊖_, _⊗_, eq-by, eq-of}
 use Rattle.whole.proofs.Ring.{*ℤ-distribˡ-+ℤ}
@@ -46,6 +49,21 @@ pub sum-none : (n : ℕ) {f : ℕ → ℤ} → ((i : ℕ) → i < n → f i ≡ 
 unfolding sum
 sum-none zero e = refl
 sum-none (suc n) {f} e = ap₂ _+ℤ_ (sum-none n (λ i h. e i (below-suc h))) (e n (lt-suc-self n))
+
+-- a sum with one term that counts
+pub sum-only : (n i : ℕ) {f : ℕ → ℤ} → i < n → ((k : ℕ) → k < n → (k ≡ i → ⊥) → f k ≡ pos 0) → sum n f ≡ f i
+unfolding sum
+sum-only zero i h e = absurd (omega arith)
+sum-only (suc n) i {f} h e = by (λ l. sum-only n i {f = f} l (λ k m. e k (below-suc m))) (eqb i n) refl
+  where
+    by : (i < n → sum n f ≡ f i) → (t : Bool) → eqb i n ≡ t → sum n f +ℤ f n ≡ f i
+    by rest true t =
+        let i-is : i ≡ n = eqb-true i n t in
+        ap (λ (z : ℤ). z +ℤ f n) (sum-none n (λ k l. e k (below-suc l) (λ q. omega arith))) ∙ +ℤ-idl (f n) ∙ ap f (sym i-is)
+    by rest false t =
+        let other : i ≡ n → ⊥ = eqb-false i n t in
+        ap₂ _+ℤ_ (rest (omega arith)) (e n (lt-suc-self n) (λ q. other (sym q))) ∙
+        +ℤ-idr (f i)
 
 -- ---- bounds
 

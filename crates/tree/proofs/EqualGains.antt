@@ -1,0 +1,36 @@
+-- 01, demand 3: "Equal gains: that gain times the input, late by the stated delay, rounded once, limited." Assumes nothing.
+use mathlib.Core.Path.{_≡_, refl, sym, ap, ap₂, _∙_}
+use Prim.Native.Nat.{ℕ, zero, suc, _+_, _-_, _*_, _^_, _≤_, _<_}
+use native.Mathlib.Nat.{sub-self}
+use native.Mathlib.Omega.{arith}
+use lib.IntN.{ℤ, pos, _+ℤ_, _-ℤ_, _*ℤ_, +ℤ-idr, zero-*ℤ}
+use Rattle.whole.specs.Nearest.{nearest}
+use Rattle.whole.specs.Limit.{limit, least24, most24}
+use Rattle.whole.proofs.Ring.{minus-self}
+use Rattle.whole.proofs.Sums.{sum-none}
+use Rattle.tree.specs.Prototype.{Prototype}
+use Rattle.tree.specs.Signal.{Signal, back}
+use Rattle.tree.specs.Tree.{level, line, delay, gainSum, output}
+use Rattle.tree.specs.Forms.{aligned, alignedSum}
+use Rattle.tree.proofs.Aligned.{aligned-form}
+
+module _ (p : Prototype) (M : ℕ) (G : ℤ) (g : ℕ → ℕ → ℤ) (x : Signal) (n : ℕ) (some : 1 ≤ M) (equal : (m : ℕ) → 1 ≤ m → m ≤ M → g n m ≡ G) where
+  -- the top line, aligned, is the input late by t
+  top-is-late : aligned p M (line p M x) M n ≡ back x n (delay p M)
+  unfolding level
+  top-is-late = ap (λ (j : ℕ). back (level p j x) n (p .centre * (2 ^ (M - 1) - 2 ^ j))) (sub-self M)
+
+  pub equal-gain-sum : gainSum p M g (line p M x) n ≡ G *ℤ back x n (delay p M)
+  unfolding alignedSum
+  equal-gain-sum =
+      aligned-form p M g (line p M x) n some ∙
+      ap₂ _+ℤ_ (ap₂ _*ℤ_ (equal M some (omega arith)) top-is-late)
+      (sum-none (M - 1)
+      (λ i h. ap (λ (z : ℤ). z *ℤ aligned p M (line p M x) (suc i) n)
+      (ap₂ _-ℤ_ (equal (suc i) (omega arith) (omega arith)) (equal (suc (suc i)) (omega arith) (omega arith)) ∙ minus-self G) ∙
+      zero-*ℤ (aligned p M (line p M x) (suc i) n))) ∙
+      +ℤ-idr (G *ℤ back x n (delay p M))
+
+  pub equal-gains : output p M g x n ≡ limit least24 most24 (nearest 4096 (G *ℤ back x n (delay p M)))
+  unfolding output
+  equal-gains = ap (λ (z : ℤ). limit least24 most24 (nearest 4096 z)) equal-gain-sum

@@ -1,0 +1,1 @@
+// The published tree: definitions (specs/) and the facts of them (proofs/). No code stands here.
