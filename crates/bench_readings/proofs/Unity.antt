@@ -8,7 +8,7 @@ use Rattle.tree.specs.Prototype.{published}
 use Rattle.tree.specs.Signal.{back, signalOf, gainOf}
 use Rattle.tree.specs.Tree.{output}
 use Rattle.tree.proofs.EqualGains.{equal-gains}
-use Rattle.tree.proofs.Stretch.{unmet}
+use Rattle.tree.proofs.Gaps.{unmet}
 use Rattle.whole.specs.Nearest.{nearest}
 use Rattle.whole.specs.Limit.{limit, least24, most24}
 use Rattle.bench_readings.specs.Reading.{read, output-of}

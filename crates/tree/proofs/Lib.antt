@@ -1,7 +1,7 @@
 -- The facts of the tree, by subject. Each is proved once over M and, where it is no fact of 01's table, over the prototype.
 pub mod Table
 pub mod Back
-pub mod Stretch
+pub mod Gaps
 pub mod Lines
 pub mod Delays
 pub mod Aligned
