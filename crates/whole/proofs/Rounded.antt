@@ -23,7 +23,7 @@ pub record Rounds (d : ℕ) (z s : ℤ) : Type 0 where
   pub quotient-fits : SFits w64 (quotZ (raw w64 s) (pos d))
   pub answer : raw w64 (quotZ (raw w64 s) (pos d)) ≡ nearest d z
 
-nearest-fits : (d : ℕ) → 0 < d → d ≤ 2 ^ 60 → (z : ℤ) → natAbs z ≤ 2 ^ 62 → SFits w64 (nearest d z)
+pub nearest-fits : (d : ℕ) → 0 < d → d ≤ 2 ^ 60 → (z : ℤ) → natAbs z ≤ 2 ^ 62 → SFits w64 (nearest d z)
 nearest-fits d h l z b = record { sfits = omega (arith, about (nearest d z), nearest-abs d h z, le-mul-of-pos-right (natAbs (nearest d z)) h) }
 
 -- the quotient of the moved number is the nearest, by the number's sign

@@ -1,0 +1,3 @@
+-- The laws that the functions' proofs cite, by subject.
+pub mod Adding
+pub mod Taps

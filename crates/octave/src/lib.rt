@@ -1,0 +1,3 @@
+// The block equaliser: line memory, the cascade step, prepare and block.
+mod line;
+mod low;
