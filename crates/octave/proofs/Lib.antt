@@ -1,3 +1,6 @@
 -- The laws that the functions' proofs cite, by subject.
 pub mod Adding
 pub mod Taps
+pub mod Band
+pub mod Regions
+pub mod Stepping

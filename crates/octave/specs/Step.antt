@@ -4,7 +4,7 @@ use mathlib.Core.Path.{_≡_}
 use mathlib.Core.List.{List, [], _∷_, _++_}
 use Prim.Native.Nat.{ℕ, zero, suc, _+_, _-_, _*_, _^_, _≤_, _<_}
 use lib.ListN.{length, getD, take, drop, set}
-use lib.IntN.{ℤ, pos, _+ℤ_, _-ℤ_, _*ℤ_}
+use lib.IntN.{ℤ, pos, natAbs, _+ℤ_, _-ℤ_, _*ℤ_}
 use Rattle.tree.specs.Prototype.{Prototype}
 use Rattle.tree.specs.Forms.{treeDelay}
 use Rattle.octave.specs.Line.{ago, lowValue}
@@ -33,7 +33,20 @@ module _ (p : Prototype) where
 -- what the step asks: the position within the lines, the lines' size for the bands left, just those lines, allowed gains
 pub record Region (p : Prototype) (bands size at L : ℕ) (lines : List ℤ) : Type 0 where
   pub some : 1 ≤ bands
+  pub few : bands ≤ 10
   pub inside : at < size
   pub sized : size ≡ p .centre * (L * 2 ^ (bands - 1))
   pub whole : length lines ≡ (bands - 1) * size
   pub small : size ≤ 4608
+
+-- .. and what it asks of the gains: one for each band, none beyond 16,384
+pub record Allowed (bands : ℕ) (gains : List ℤ) : Type 0 where
+  pub enough : bands ≤ length gains
+  pub range : (i : ℕ) → natAbs (getD gains i (pos 0)) ≤ 2 ^ 14
+
+-- what the step answers: the places afterwards, the gain sum, far within 64 bits for any places, and the aligned sample
+pub record Done (bands : ℕ) (s : Stepped) (places : List ℤ) (total late : ℤ) : Type 0 where
+  pub places-are : places ≡ s .places
+  pub sum-is : total ≡ s .sum
+  pub aligned-is : late ≡ s .aligned
+  pub bounded : natAbs total ≤ bands * 2 ^ 46
