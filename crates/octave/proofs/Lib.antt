@@ -4,3 +4,5 @@ pub mod Taps
 pub mod Band
 pub mod Regions
 pub mod Stepping
+pub mod Ranges
+pub mod Layouts

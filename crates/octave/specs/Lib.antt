@@ -2,3 +2,6 @@
 pub mod Low
 pub mod Line
 pub mod Step
+pub mod Range
+pub mod Answer
+pub mod Memory

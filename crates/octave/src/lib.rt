@@ -1,4 +1,7 @@
-// The block equaliser: line memory, the cascade step, prepare and block.
+// The block equaliser: line memory, prepare, the cascade step, block.
 mod cascade;
+mod layout;
 mod line;
 mod low;
+pub mod memory;
+mod range;

@@ -1,0 +1,20 @@
+// The layout of the line memory: the count, the position, then the lines from line M down to line 2.
+ghost use mathlib.Core.Path.{_≡_};
+ghost use Prim.Native.Nat.{_≤_, _+_, _*_, _-_};
+ghost use Rattle.octave.specs.Memory.{lineLength, memoryLength};
+
+// The places of each line, 9·2^(bands-1).
+pub fn line_length(bands: usize) -> usize
+    requires { ⌜ (2 ≤ bands) × (bands ≤ 10) ⌝ }
+    ensures { λ r. ⌜ r ≡ lineLength bands ⌝ }
+{
+    9 << (bands - 1)
+}
+
+// The places of the whole memory.
+pub fn whole_length(bands: usize) -> usize
+    requires { ⌜ (2 ≤ bands) × (bands ≤ 10) ⌝ }
+    ensures { λ r. ⌜ r ≡ memoryLength bands ⌝ }
+{
+    2 + (bands - 1) * line_length(bands)
+}
