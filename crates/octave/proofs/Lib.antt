@@ -6,3 +6,4 @@ pub mod Regions
 pub mod Stepping
 pub mod Ranges
 pub mod Layouts
+pub mod Keeping

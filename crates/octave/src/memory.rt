@@ -1,7 +1,10 @@
 // The line memory: its length for a band count, and preparing it.
 ghost use mathlib.Core.Path.{_≡_};
-ghost use Rattle.octave.specs.Answer.{lengthAnswer};
-ghost use Rattle.octave.specs.Memory.{memoryLengthOf};
+ghost use lib.ListN.{length, replicate};
+ghost use lib.IntN.{pos};
+ghost use Rattle.octave.specs.Answer.{lengthAnswer, preparedAnswer};
+ghost use Rattle.octave.specs.Memory.{memoryLengthOf, prepareOf, PrepareDone, keptOf};
+use crate::layout::line_length;
 use crate::layout::whole_length;
 use crate::range::within;
 
@@ -9,6 +12,21 @@ use crate::range::within;
 pub enum Length {
     Places(usize),
     BandCount,
+}
+
+// What preparing answers: the delay, or why it was refused.
+pub enum Prepared {
+    Delay(usize),
+    BandCount,
+    MemoryLength,
+}
+
+// What a lent memory is: that of so many bands, or what is wrong with it.
+pub enum Kept {
+    Bands(usize),
+    CountWrong,
+    LengthWrong,
+    PositionOutside,
 }
 
 // The memory length for a band count, so that a caller can lend the right number of places.
@@ -19,4 +37,56 @@ pub fn memory_length(bands: i32) -> Length
         return Length::BandCount;
     }
     Length::Places(whole_length(bands as usize))
+}
+
+// Every place 0.
+fn clear(s: &mut [i32])
+    ensures { λ _. ⌜ now (s .exit) ≡ replicate (length (now (s .entry))) (pos 0) ⌝ }
+{
+    let mut i = 0;
+    while i < s.len() {
+        s[i] = 0;
+        i += 1;
+    }
+}
+
+// Fills the memory for an empty history and answers the delay.
+pub fn prepare(bands: i32, memory: &mut [i32]) -> Prepared
+    ensures { λ r. ⌜ PrepareDone (prepareOf bands (now (memory .entry))) (preparedAnswer r) (now (memory .exit)) ⌝ }
+{
+    if !within(2, 10, bands) {
+        return Prepared::BandCount;
+    }
+    let count = bands as usize;
+    if memory.len() != whole_length(count) {
+        return Prepared::MemoryLength;
+    }
+    clear(memory);
+    memory[0] = bands;
+    Prepared::Delay(line_length(count) - 9)
+}
+
+// Judges a lent memory: its count, then its length, then its position.
+pub fn judge(memory: &[i32]) -> Kept
+    ensures { λ r. ⌜ r ≡ keptOf (now (memory .entry)) ⌝ }
+{
+    if memory.len() == 0 {
+        return Kept::CountWrong;
+    }
+    let bands = memory[0];
+    if !within(2, 10, bands) {
+        return Kept::CountWrong;
+    }
+    let count = bands as usize;
+    if memory.len() != whole_length(count) {
+        return Kept::LengthWrong;
+    }
+    let at = memory[1];
+    if at < 0 {
+        return Kept::PositionOutside;
+    }
+    if line_length(count) <= at as usize {
+        return Kept::PositionOutside;
+    }
+    Kept::Bands(count)
 }
