@@ -7,3 +7,5 @@ pub mod Stepping
 pub mod Ranges
 pub mod Layouts
 pub mod Keeping
+pub mod Running
+pub mod Blocking

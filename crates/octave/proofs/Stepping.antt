@@ -59,7 +59,7 @@ delay-is b size at L lines r =
     (omega (arith, r .sized, mul-le-mul-left L (pow-mono {i = 1} {j = suc (suc b) - 1} (omega arith))))
 
 -- what is put back is the line with its new sample, and the rest as the step below left it
-put-is : (size : ℕ) (m ys : List ℤ) → size ≤ length m → putMid size (length m - size) m ys ≡ take size m ++ ys
+pub put-is : (size : ℕ) (m ys : List ℤ) → size ≤ length m → putMid size (length m - size) m ys ≡ take size m ++ ys
 put-is size m ys h =
     ap (λ (l : List ℤ). take size m ++ (ys ++ l)) (drop-of-length-le (drop size m) {i = length m - size} (simp length-drop (omega arith))) ∙
     ap (λ (l : List ℤ). take size m ++ l) (append-nil ys)

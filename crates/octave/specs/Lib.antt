@@ -5,3 +5,5 @@ pub mod Step
 pub mod Range
 pub mod Answer
 pub mod Memory
+pub mod Run
+pub mod Block

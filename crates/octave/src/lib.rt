@@ -1,7 +1,9 @@
 // The block equaliser: line memory, prepare, the cascade step, block.
+pub mod block;
 mod cascade;
 mod layout;
 mod line;
 mod low;
 pub mod memory;
 mod range;
+mod run;

@@ -1,0 +1,110 @@
+-- `block::equalise` meets its contract. Assumes nothing.
+use mathlib.Core.Path.{_≡_, ap, sym, subst, _∙_}
+use Prim.Native.Nat.{ℕ, _-_, _<_}
+use native.Mathlib.Omega.{arith}
+use borrow.Author.Needs.{needs, sfits-of}
+use borrow.Rule.Slice.PartMut.{putMid, same-len-mid}
+use lib.ListN.{length, getD, take, drop}
+use lib.IntN.{pos, natAbs}
+use denote.Ref.{now}
+use mir.Syntax.{w32}
+use mir.Val.{SFits}
+use mir.Facts.{toZ-ofZ, fits-natAbs}
+use Rattle.whole.proofs.Rounded.{raw}
+use Rattle.tree.specs.Prototype.{published}
+use Rattle.tree.specs.Signal.{gainOf}
+use Rattle.octave.specs.Run.{run, RunDone}
+use Rattle.octave.proofs.Keeping.{not-negative}
+use Rattle.octave.proofs.Blocking.{Accepted, accepted-is, region-is, allowed-gains, position-small, equalised}
+use Rattle.octave.proofs.block.equalise.Statement.{statement}
+use Rattle.octave.proofs.block.equalise.Tie as tie
+
+memory-kept : (c : tie.Start) → Accepted (now (c .args .memory)) (c .args .bands)
+memory-kept c = accepted-is (now (c .args .memory)) (c .args .bands) (c .pre .kept)
+
+at-fits : (c : tie.After-from) → SFits w32 (getD (now (c .before .before .args .memory)) 1 (pos 0))
+at-fits c = sfits-of (c .from .given)
+
+from-is : (c : tie.After-from) → natAbs (raw w32 (getD (now (c .before .before .args .memory)) 1 (pos 0))) ≡ natAbs (getD (now (c .before .before .args .memory)) 1 (pos 0))
+from-is c = ap natAbs (toZ-ofZ (at-fits c))
+
+line-length-requires : tie.Need-line-length-requires
+line-length-requires c κs =
+    let a = memory-kept c in
+    (omega (arith, a .count .least, a .bands-are), omega (arith, a .count .most, a .bands-are))
+
+slice-copy-out-from : tie.Need-slice-copy-out-from
+slice-copy-out-from c = omega (arith, memory-kept (c .before) .long)
+
+cast-from : tie.Need-cast-from
+cast-from c =
+    rw (toZ-ofZ (at-fits c))
+    (not-negative (getD (now (c .before .before .args .memory)) 1 (pos 0)) (memory-kept (c .before .before) .not-below), fits-natAbs tt (at-fits c))
+
+sub-run : tie.Need-sub-run
+sub-run c = omega (arith, memory-kept (c .before .before) .long)
+
+part-run-start : tie.Need-part-run-start
+part-run-start c = omega (arith, memory-kept (c .before .before) .long)
+
+part-run-end : tie.Need-part-run-end
+part-run-end c = search needs
+
+run-requires : tie.Need-run-requires
+run-requires c κs =
+    let s = c .before .before .before .before in
+    let a = s .args in (
+      region-is (now (a .memory)) (a .bands) (c .before .before .before .line-length .result) (natAbs (raw w32 (getD (now (a .memory)) 1 (pos 0)))) (memory-kept s)
+          (c .before .before .before .line-length .ensures) (from-is (c .before .before)),
+      allowed-gains (now (a .gains)) (s .pre .counted) (s .pre .allowed),
+      s .pre .alike,
+    )
+
+cast-memory : tie.Need-cast-memory
+cast-memory c =
+    let s = c .before .before .before .before .before .before .before in
+    let a = s .args in
+    record {
+      sfits =
+          position-small (a .bands) (c .before .before .before .before .before .before .line-length .result) (natAbs (raw w32 (getD (now (a .memory)) 1 (pos 0)))) (c .before .before .run .result) (now (a .memory))
+          (now (a .gains)) (now (a .input)) (c .before .before .run .last .0) (c .before .before .run .last .1 .1 .1 .1 .1 .1 .0) (memory-kept s) (c .before .before .before .before .before .before .line-length .ensures)
+          (from-is (c .before .before .before .before .before)) (c .before .before .run .ensures);
+    }
+
+slice-set-from-memory : tie.Need-slice-set-from-memory
+slice-set-from-memory c =
+    let s = c .before .before .before .before .before .before .before in
+    let m = now (s .args .memory) in
+    let long : length (putMid 2 (length m - 2) m (c .before .before .run .last .0)) ≡ length m = same-len-mid 2 (length m - 2) m (c .before .before .run .last .0) (c .before .before .run .kept .0) in
+    subst (λ (k : ℕ). 1 < k) (sym long) (omega (arith, memory-kept s .long))
+
+same-length : tie.Need-same-length
+same-length c = search needs
+
+same-length-2 : tie.Need-same-length-2
+same-length-2 c = search needs
+
+returns : tie.Need-returns
+returns c =
+    let s = c .before .before .before .before .before .before .before in
+    let a = s .args in
+    equalised (a .bands) (c .before .before .before .before .before .before .line-length .result) (natAbs (raw w32 (getD (now (a .memory)) 1 (pos 0)))) (c .before .before .run .result) (now (a .memory))
+    (now (a .gains)) (now (a .input)) (c .before .before .run .last .0) (c .before .before .run .last .1 .1 .1 .1 .1 .1 .0) (memory-kept s) (c .before .before .before .before .before .before .line-length .ensures)
+    (from-is (c .before .before .before .before .before)) (c .before .before .run .ensures)
+
+pub equalise-spec : {M : Type 1} → statement M
+equalise-spec =
+    tie.close
+    (tie.spec
+    line-length-requires
+    slice-copy-out-from
+    cast-from
+    sub-run
+    part-run-start
+    part-run-end
+    run-requires
+    cast-memory
+    slice-set-from-memory
+    same-length
+    same-length-2
+    returns)

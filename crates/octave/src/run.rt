@@ -1,0 +1,54 @@
+// A block's samples through the lines, one after the other.
+ghost use mathlib.Core.Path.{_≡_};
+ghost use Prim.Native.Nat.{_≤_, _<_};
+ghost use lib.ListN.{length};
+ghost use Rattle.tree.specs.Prototype.{published};
+ghost use Rattle.tree.specs.Signal.{gainOf};
+ghost use Rattle.octave.specs.Step.{Region, Allowed};
+ghost use Rattle.octave.specs.Run.{next, answered, run, Answered, RunDone};
+use crate::cascade::step;
+use whole::limiting::limit_24;
+use whole::rounding::nearest_4096;
+
+// The place after `at` in the rings.
+fn next(size: usize, at: usize) -> usize
+    requires { ⌜ (at < size) × (size ≤ 4608) ⌝ }
+    ensures { λ r. ⌜ r ≡ next size at ⌝ }
+{
+    if at + 1 < size {
+        return at + 1;
+    }
+    0
+}
+
+// One sample: through the lines, then rounded once and limited once.
+fn answer(lines: &mut [i32], size: usize, at: usize, bands: usize, gains: &[i32], x: i32) -> i32
+    requires { ⌜ Region published bands size at 1 (now lines) × Allowed bands (now gains) ⌝ }
+    ensures { λ r. ⌜ Answered (answered published bands size at (gainOf (now (gains .entry))) (now (lines .entry)) x) (now (lines .exit)) r ⌝ }
+{
+    let stepped = step(lines, size, at, 1, bands, gains, x);
+    limit_24(nearest_4096(stepped.sum))
+}
+
+// Every sample of the block, from the position `from`; answers the position afterwards.
+pub fn run(
+    lines: &mut [i32],
+    size: usize,
+    from: usize,
+    bands: usize,
+    gains: &[i32],
+    input: &[i32],
+    output: &mut [i32],
+) -> usize
+    requires { ⌜ Region published bands size from 1 (now lines) × Allowed bands (now gains) × (length (now output) ≡ length (now input)) ⌝ }
+    ensures { λ r. ⌜ RunDone (run published bands size (gainOf (now (gains .entry))) (now (lines .entry)) from (now (input .entry))) (now (lines .exit)) r (now (output .exit)) ⌝ }
+{
+    let mut at = from;
+    let mut i = 0;
+    while i < input.len() {
+        output[i] = answer(lines, size, at, bands, gains, input[i]);
+        at = next(size, at);
+        i += 1;
+    }
+    at
+}
