@@ -7,3 +7,7 @@ pub mod Delays
 pub mod Aligned
 pub mod Recursive
 pub mod EqualGains
+pub mod Weighted
+pub mod Allowance
+pub mod AlignedSum
+pub mod Distance
