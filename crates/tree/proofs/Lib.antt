@@ -11,3 +11,7 @@ pub mod Weighted
 pub mod Allowance
 pub mod AlignedSum
 pub mod Distance
+pub mod Counts
+pub mod Farthest
+pub mod Reach
+pub mod NoCrack

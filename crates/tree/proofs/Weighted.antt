@@ -1,5 +1,5 @@
 -- The weighted sum of a signal is linear in the signal, and no larger than the magnitudes' sum times the signal. Assumes nothing.
-use mathlib.Core.Path.{_≡_, refl, sym, ap, _∙_}
+use mathlib.Core.Path.{_≡_, ap, _∙_}
 use Prim.Native.Nat.{ℕ, _*_, _≤_}
 use lib.IntN.{ℤ, natAbs, _-ℤ_, _*ℤ_}
 use Rattle.whole.proofs.Ring.{*ℤ-distribˡ--ℤ, *ℤ-left-comm}
