@@ -11,7 +11,6 @@ use lib.IntN.{natAbs}
 use mir.Syntax.{w32}
 use mir.Val.{SFits}
 use Rattle.whole.specs.Limit.{limit, least32, most32}
-use Rattle.whole.specs.Sum.{sumℕ}
 use Rattle.whole.proofs.Signed.{about}
 use Rattle.whole.proofs.Nearest.{nearest-within}
 use Rattle.whole.proofs.Limit.{limit32-id}
@@ -19,6 +18,7 @@ use Rattle.tree.specs.Prototype.{Prototype, scale, magnitudes, published
 use Rattle.tree.specs.Signal.{Signal}
 use Rattle.tree.specs.Edges.{largestSample}
 use Rattle.tree.specs.Tree.{weighted, lowPass, level}
+use Rattle.tree.proofs.Table.{magnitudes-add-up}
 use Rattle.tree.proofs.Counts.{every, every-at}
 use Rattle.tree.proofs.Weighted.{weighted-abs}
 
@@ -58,8 +58,7 @@ module _ (p : Prototype) (A : ℕ) (sized : magnitudes p ≤ A) (x : Signal) whe
 -- ---- 01's table: "their magnitudes add up to 140,240"
 
 published-sized : magnitudes published ≤ 140240
-unfolding sumℕ
-published-sized = omega arith
+published-sized = rw magnitudes-add-up (le-refl 140240)
 
 -- the ten levels' reaches
 pub reaches : map (reach 140240) (0 ∷ 1 ∷ 2 ∷ 3 ∷ 4 ∷ 5 ∷ 6 ∷ 7 ∷ 8 ∷ 9 ∷ []) ≡
