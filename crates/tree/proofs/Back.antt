@@ -6,7 +6,7 @@ use native.Mathlib.Nat.{sub-zero}
 use native.Mathlib.Omega.{arith}
 use borrow.Author.Tests.{leb-true, leb-false, le-leb, lt-leb}
 use lib.Dec.{leb}
-use lib.IntN.{ℤ, pos, _-ℤ_, _*ℤ_, *ℤ-zero}
+use lib.IntN.{ℤ, pos, natAbs, _-ℤ_, _*ℤ_, *ℤ-zero}
 use Rattle.tree.specs.Signal.{Signal, back}
 
 -- ---- which of the two it is
@@ -54,3 +54,7 @@ back-* c s n d = by (leb d n)
     by : (t : Bool) → cond t (c *ℤ s (n - d)) (pos 0) ≡ c *ℤ cond t (s (n - d)) (pos 0)
     by true = refl
     by false = sym (*ℤ-zero c)
+
+-- no larger than the signal up to n
+pub back-abs : (s : Signal) (n d X : ℕ) → ((k : ℕ) → k ≤ n → natAbs (s k) ≤ X) → natAbs (back s n d) ≤ X
+back-abs s n d X h = back-cases s n d (λ z. natAbs z ≤ X) (λ l. h (n - d) (omega arith)) (λ _. omega arith)

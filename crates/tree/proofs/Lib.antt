@@ -7,3 +7,11 @@ pub mod Delays
 pub mod Aligned
 pub mod Recursive
 pub mod EqualGains
+pub mod Weighted
+pub mod Allowance
+pub mod AlignedSum
+pub mod Distance
+pub mod Counts
+pub mod Farthest
+pub mod Reach
+pub mod NoCrack

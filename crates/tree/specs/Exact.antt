@@ -1,10 +1,15 @@
 -- 01, Exact output and allowance, over any prototype p.
 use Prim.Native.Nat.{ℕ, zero, suc, _+_, _-_, _*_, _/_, _^_}
-use lib.IntN.{ℤ, pos, _*ℤ_}
+use lib.IntN.{ℤ, pos, natAbs, _-ℤ_, _*ℤ_}
 use Rattle.whole.specs.Limit.{limit, least24, most24}
+use Rattle.whole.specs.Sum.{sumℕ}
 use Rattle.tree.specs.Prototype.{Prototype, scale, magnitudes}
 use Rattle.tree.specs.Signal.{Signal}
 use Rattle.tree.specs.Tree.{weighted, gainSum}
+
+-- demand 3, for 01's table: "never past 302 steps"
+abbrev pub farthest : ℕ
+farthest = 302
 
 -- "P = 100,000^(M-1)"
 abbrev pub commonScale : ℕ → ℕ
@@ -40,3 +45,11 @@ module _ (p : Prototype) where
   -- E(k)
   abbrev pub allowance : ℕ → ℕ → ℕ
   allowance M k = allowanceAt (M - k)
+
+  -- "the sum over k = 1..M-1 of |gain(k+1) - gain(k)|·E(k)·100,000^(k-1)", the gains those of sample n; k is i + 1
+  unfoldable pub slack : ℕ → (ℕ → ℕ → ℤ) → ℕ → ℕ
+  slack M g n = sumℕ (M - 1) (λ i. natAbs (g n (suc (suc i)) -ℤ g n (suc i)) * (allowance M (suc i) * scale ^ i))
+
+  -- "all nine together": the sum of E(k)·100,000^(k-1), on the common scale P
+  unfoldable pub together : ℕ → ℕ
+  together M = sumℕ (M - 1) (λ i. allowance M (suc i) * scale ^ i)

@@ -1,11 +1,13 @@
 -- The magnitude |a|, `natAbs`, of a sum, a difference, a negation and a product. Assumes nothing.
 use mathlib.Core.Path.{_≡_, refl, ap, sym, _∙_}
+use mathlib.Core.Logic.{⊎-elim}
 use Prim.Native.Nat.{ℕ, zero, suc, _+_, _*_, _≤_, _<_, _^_}
 use native.Mathlib.Nat.{le-refl, zero-mul, mul-zero}
 use native.Mathlib.Omega.{arith}
 use lib.IntN.{ℤ, pos, negsuc, negℤ, natAbs, _+ℤ_, _-ℤ_, _*ℤ_}
-use lib.Signed.{mag, _≤ℤ_}
-use Rattle.whole.proofs.Signed.{up, down, var, lit, neg, _⊕_, _⊖_, _⊗_, Near, eq-by, le-by, abs-by, abs-of, about}
+use lib.Signed.{mag, _≤ℤ_, _<ℤ_}
+use Rattle.whole.proofs.Signed.{up, down, var, lit, neg, _⊕_, _⊖_, _⊗_, Near, eq-by, le-by, abs-by, abs-of, le-of, lt-of, about, signed}
+use Rattle.whole.proofs.Order.{≤ℤ-total, *ℤ-monoˡ-≤ℤ}
 
 pub abs-+ℤ : (a b : ℤ) → natAbs (a +ℤ b) ≤ natAbs a + natAbs b
 abs-+ℤ a b = abs-by (var a ⊕ var b) (natAbs a + natAbs b) (omega (arith, about a, about b)) (omega (arith, about a, about b))
@@ -38,6 +40,35 @@ abs-via a b c =
 pub abs-zero : (a : ℤ) → natAbs a ≤ 0 → a ≡ pos 0
 abs-zero a h = eq-by (var a) (lit 0) (omega (arith, about a))
 
+-- two numbers from 0 to k are at most k apart
+pub abs-between : (k : ℕ) {a b : ℤ} → pos 0 ≤ℤ a → a ≤ℤ pos k → pos 0 ≤ℤ b → b ≤ℤ pos k → natAbs (a -ℤ b) ≤ k
+abs-between k {a} {b} l h l' h' = abs-by (var a ⊖ var b) k (omega signed) (omega signed)
+
 -- a number is within its magnitude, below and above
 pub ≤ℤ-abs : (a : ℤ) → a ≤ℤ pos (natAbs a)
 ≤ℤ-abs a = le-by (var a) (lit (natAbs a)) (omega (arith, about a))
+
+-- ---- a multiple of y within F of z: where z is beyond F, y has its sign
+
+pub above-when-near : (k F : ℕ) (y z : ℤ) → natAbs (pos k *ℤ y -ℤ z) ≤ F → pos F <ℤ z → pos 0 <ℤ y
+above-when-near k F y z near far = ⊎-elim (λ h. h) (λ h. absurd (clash h)) (≤ℤ-total (pos 0) y)
+  where
+    clash : y ≤ℤ pos 0 → ⊥
+    clash h =
+        omega (
+          signed,
+          abs-of (lit k ⊗ var y ⊖ var z) F near,
+          le-of (lit k ⊗ var y) (lit k ⊗ lit 0) (*ℤ-monoˡ-≤ℤ k h),
+        )
+
+pub below-when-near : (k F : ℕ) (y z : ℤ) → natAbs (pos k *ℤ y -ℤ z) ≤ F → z <ℤ negℤ (pos F) → y <ℤ pos 0
+below-when-near k F y z near far = ⊎-elim (λ h. h) (λ h. absurd (clash h)) (≤ℤ-total y (pos 0))
+  where
+    clash : pos 0 ≤ℤ y → ⊥
+    clash h =
+        omega (
+          signed,
+          lt-of (var z) (neg (lit F)) far,
+          abs-of (lit k ⊗ var y ⊖ var z) F near,
+          le-of (lit k ⊗ lit 0) (lit k ⊗ var y) (*ℤ-monoˡ-≤ℤ k h),
+        )

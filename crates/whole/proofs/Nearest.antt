@@ -66,18 +66,18 @@ nearest-exact d h (negsuc a) =
 
 -- ---- monotone
 
+q-mono : (d : ℕ) → 0 < d → (a b : ℕ) → a ≤ b → (a + d / 2) / d ≤ (b + d / 2) / d
+q-mono d h a b k = le-div-iff-mul-le h .1 (omega (arith, div-mul-le-self (a + d / 2) d))
+
 pub nearest-mono : (d : ℕ) → 0 < d → {y z : ℤ} → y ≤ℤ z → nearest d y ≤ℤ nearest d z
 nearest-mono d h {y} {z} l = by y z (read-le y z l)
   where
-    q-mono : (a b : ℕ) → a ≤ b → (a + d / 2) / d ≤ (b + d / 2) / d
-    q-mono a b k = le-div-iff-mul-le h .1 (omega (arith, div-mul-le-self (a + d / 2) d))
-
     by : (y z : ℤ) → up y + down z ≤ up z + down y → nearest d y ≤ℤ nearest d z
-    by (pos a) (pos b) k = le-by (lit (q d a)) (lit (q d b)) (omega (arith, q-mono a b (omega arith)))
+    by (pos a) (pos b) k = le-by (lit (q d a)) (lit (q d b)) (omega (arith, q-mono d h a b (omega arith)))
     by (pos a) (negsuc b) k = absurd (omega arith)
     by (negsuc a) (pos b) k = le-by (neg (lit (q d (suc a)))) (lit (q d b)) (omega arith)
     by (negsuc a) (negsuc b) k =
-        le-by (neg (lit (q d (suc a)))) (neg (lit (q d (suc b)))) (omega (arith, q-mono (suc b) (suc a) (omega arith)))
+        le-by (neg (lit (q d (suc a)))) (neg (lit (q d (suc b)))) (omega (arith, q-mono d h (suc b) (suc a) (omega arith)))
 
 -- ---- its size
 
@@ -89,6 +89,11 @@ nearest-abs d h z = mirror (λ z w. 2 * (d * natAbs w) ≤ 2 * natAbs z + d) d r
 
     turned : (z w : ℤ) → 2 * (d * natAbs w) ≤ 2 * natAbs z + d → 2 * (d * natAbs (negℤ w)) ≤ 2 * natAbs (negℤ z) + d
     turned z w l = rw (abs-neg w, abs-neg z) l
+
+-- of a number of magnitude at most a
+pub nearest-within : (d : ℕ) → 0 < d → (a : ℕ) (z : ℤ) → natAbs z ≤ a → natAbs (nearest d z) ≤ (a + d / 2) / d
+nearest-within d h a (pos k) l = q-mono d h k a l
+nearest-within d h a (negsuc k) l = rw (abs-neg (pos ((suc k + d / 2) / d))) (q-mono d h (suc k) a l)
 
 -- ---- values: at a tie away from zero, on both sides; at zero; at both ends of the sample range
 

@@ -82,6 +82,11 @@ unfolding sumℕ
 sumℕ-*ʳ zero f c = sym (zero-mul c)
 sumℕ-*ʳ (suc n) f c = ap (λ (k : ℕ). k + f n * c) (sumℕ-*ʳ n f c) ∙ sym (add-mul (sumℕ n f) (f n) c)
 
+pub sumℕ-none : (n : ℕ) {f : ℕ → ℕ} → ((i : ℕ) → i < n → f i ≡ 0) → sumℕ n f ≡ 0
+unfolding sumℕ
+sumℕ-none zero e = refl
+sumℕ-none (suc n) e = ap₂ _+_ (sumℕ-none n (λ i h. e i (below-suc h))) (e n (lt-suc-self n))
+
 -- |sum| is at most the sum of the magnitudes
 pub abs-sum : (n : ℕ) (f : ℕ → ℤ) → natAbs (sum n f) ≤ sumℕ n (λ i. natAbs (f i))
 unfolding sum sumℕ

@@ -1,0 +1,96 @@
+-- 01, Exact output and allowance: "the distance between 4,096·P times the output and 4,096·P times the exact output is at most
+-- 2,048·P plus the sum over k = 1..M-1 of |gain(k+1) - gain(k)|·E(k)·100,000^(k-1)". Assumes nothing.
+use mathlib.Core.Path.{_≡_, refl}
+use Prim.Native.Nat.{ℕ, suc, _+_, _-_, _*_, _^_, _≤_, _<_}
+use native.Mathlib.Nat.{le-refl, le-trans, add-le-add, mul-le-mul-left, mul-comm, sub-self, mul-zero, zero-mul, zero-add, add-zero, one-le-pow}
+use native.Mathlib.Numerals.{sub-one}
+use native.Mathlib.Omega.{arith}
+use lib.IntN.{ℤ, pos, natAbs, _-ℤ_, _*ℤ_}
+use lib.Signed.{_≤ℤ_, leZ-yes}
+use Rattle.whole.specs.Nearest.{nearest}
+use Rattle.whole.specs.Limit.{least24, most24}
+use Rattle.whole.specs.Sum.{sumℕ}
+use Rattle.whole.proofs.Signed.{var, lit, _⊖_, _⊗_, eq-by}
+use Rattle.whole.proofs.Ring.{minus-self}
+use Rattle.whole.proofs.Order.{*ℤ-monoˡ-≤ℤ}
+use Rattle.whole.proofs.Magnitude.{abs-*ℤ, abs-via}
+use Rattle.whole.proofs.Sums.{sumℕ-mono, sumℕ-none}
+use Rattle.whole.proofs.Nearest.{nearest-error}
+use Rattle.whole.proofs.Limit.{limit-near, limit-scale}
+use Rattle.tree.specs.Prototype.{Prototype, scale}
+use Rattle.tree.specs.Signal.{Signal}
+use Rattle.tree.specs.Tree.{line, gainSum, output}
+use Rattle.tree.specs.Exact.{commonScale, onWhole, exactSum, exactOutput, allowanceAt, allowance, slack}
+use Rattle.tree.proofs.Aligned.{aligned-form}
+use Rattle.tree.proofs.AlignedSum.{aligned-sum-*, aligned-sum--, aligned-sum-abs}
+use Rattle.tree.proofs.Allowance.{line-near}
+
+module _ (p : Prototype) (M : ℕ) (g : ℕ → ℕ → ℤ) (x : Signal) (n : ℕ) (some : 1 ≤ M) where
+  -- before any rounding of the sum: P times the gain sum and the exact sum
+  pub sum-near : natAbs (pos (commonScale M) *ℤ gainSum p M g (line p M x) n -ℤ exactSum p M g x n) ≤ slack p M g n
+  unfolding slack allowanceAt
+  sum-near =
+      rw (aligned-form p M g (line p M x) n some, aligned-form p M g exact n some, ← (aligned-sum-* p M (g n) n (pos (commonScale M)) (line p M x)), ← (aligned-sum-- p M (g n) n rounded exact))
+      (le-trans (aligned-sum-abs p M (g n) n (λ k i. rounded k i -ℤ exact k i) error some (λ k i. line-near p x M k i))
+      (rw (no-top, zero-add (sumℕ (M - 1) (λ i. gap i * error (suc i))))
+      (sumℕ-mono (M - 1) (λ i _. rw (sub-one (suc i)) (le-refl (gap i * (allowance p M (suc i) * scale ^ i)))))))
+    where
+      rounded : ℕ → Signal
+      rounded k i = pos (commonScale M) *ℤ line p M x k i
+
+      exact : ℕ → Signal
+      exact = onWhole p M x
+
+      gap : ℕ → ℕ
+      gap i = natAbs (g n (suc (suc i)) -ℤ g n (suc i))
+
+      error : ℕ → ℕ
+      error k = allowance p M k * scale ^ (k - 1)
+
+      -- "E(M) = 0"
+      no-top : natAbs (g n M) * error M ≡ 0
+      no-top = rw (sub-self M, zero-mul (scale ^ (M - 1)), mul-zero (natAbs (g n M))) refl
+
+  -- "With P = 100,000^(M-1)"
+  pub distance :
+      natAbs (pos (4096 * commonScale M) *ℤ output p M g x n -ℤ exactOutput p M g x n) ≤ 2048 * commonScale M + slack p M g n
+  unfolding output exactOutput
+  distance =
+      rw (← (limit-scale (4096 * P) some-P least24 most24 y))
+      (le-trans (limit-near (pos (4096 * P) *ℤ least24) (pos (4096 * P) *ℤ most24) ends (exactSum p M g x n) (pos (4096 * P) *ℤ y))
+      (le-trans (abs-via (pos (4096 * P) *ℤ y) (pos P *ℤ z) (exactSum p M g x n)) (add-le-add once sum-near)))
+    where
+      P : ℕ
+      P = commonScale M
+
+      z : ℤ
+      z = gainSum p M g (line p M x) n
+
+      y : ℤ
+      y = nearest 4096 z
+
+      some-P : 0 < 4096 * P
+      some-P = omega (arith, one-le-pow (M - 1) scale (omega arith))
+
+      ends : (pos (4096 * P) *ℤ least24) ≤ℤ (pos (4096 * P) *ℤ most24)
+      ends = *ℤ-monoˡ-≤ℤ (4096 * P) {a = least24} {b = most24} (leZ-yes tt)
+
+      -- the one rounding, by 4,096
+      once : natAbs (pos (4096 * P) *ℤ y -ℤ pos P *ℤ z) ≤ 2048 * P
+      once =
+          rw (eq-by (lit (4096 * P) ⊗ var y ⊖ lit P ⊗ var z) (lit P ⊗ (lit 4096 ⊗ var y ⊖ var z)) (omega arith), abs-*ℤ (pos P) (pos 4096 *ℤ y -ℤ z), mul-comm 2048 P)
+          (mul-le-mul-left P (omega (arith, nearest-error 4096 (omega arith) z)))
+
+  -- ---- equal gains
+
+  module _ (G : ℤ) (equal : (m : ℕ) → 1 ≤ m → m ≤ M → g n m ≡ G) where
+    no-slack : slack p M g n ≡ 0
+    unfolding slack
+    no-slack =
+        sumℕ-none (M - 1)
+        (λ i h. rw (equal (suc (suc i)) (omega arith) (omega arith), equal (suc i) (omega arith) (omega arith), minus-self G)
+        (zero-mul (allowance p M (suc i) * scale ^ i)))
+
+    -- they leave nothing but the one rounding: half a step
+    pub half-a-step : natAbs (pos (4096 * commonScale M) *ℤ output p M g x n -ℤ exactOutput p M g x n) ≤ 2048 * commonScale M
+    half-a-step = rw (no-slack, add-zero (2048 * commonScale M)) at distance
