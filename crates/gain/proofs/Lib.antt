@@ -1,0 +1,5 @@
+pub mod Every
+pub mod Halves
+pub mod Table
+pub mod Product
+pub mod Factors
