@@ -2,8 +2,8 @@
 -- Assumes nothing.
 use mathlib.Core.Path.{_≡_, refl, sym, ap, _∙_, subst}
 use mathlib.Core.Bool.{Bool, true, false, cond}
-use Prim.Native.Nat.{ℕ, zero, suc, _+_, _*_, _/_, _^_, _≤_, _<_}
-use native.Mathlib.Nat.{add-div-right, div-div-eq-div-mul, div-le-of-le-mul, mul-comm, mul-lt-mul-of-pos-right}
+use Prim.Native.Nat.{ℕ, zero, suc, _+_, _-_, _*_, _/_, _%_, _^_, _≤_, _<_}
+use native.Mathlib.Nat.{add-div-right, div-div-eq-div-mul, div-le-of-le-mul, mul-comm, mul-lt-mul-of-pos-right, div-add-mod', mod-lt, lt-of-mul-lt-mul-right, lt-of-le-of-lt}
 use native.Mathlib.Omega.{arith}
 use borrow.Author.Tests.{ltb-true, ltb-false, eqb-true, leb-true, eq-eqb, ne-eqb, le-leb, lt-leb}
 use lib.Dec.{T, leb, ltb, eqb, lit<}
@@ -11,7 +11,8 @@ use lib.IntN.{ℤ, pos, negsuc}
 use lib.Ieee.{Float, nan, inf, fin, binary32, up, down, lt, ne, mul, fits}
 use lib.Ieee.Compare.{differs-from-itself}
 use lib.Ieee.Fits.{down-pos}
-use Rattle.gain.specs.Answer.{Answer, accepted, refused, nearest, upToFour, factorOf, factorAnswer}
+use Rattle.gain.specs.Answer.{Answer, accepted, refused}
+use Rattle.gain.specs.Factor.{nearest, upToFour, times, factorAnswer}
 use Rattle.gain.proofs.Halves.{true-is-not-false}
 use Rattle.gain.proofs.Product.{exact, Cut, cut}
 
@@ -28,7 +29,7 @@ none-below : (v d : ℕ) → ltb (v * 1) (0 * 1 * d) ≡ true → ⊥
 none-below v d e = let l = ltb-true (v * 1) (0 * 1 * d) e in omega arith
 
 pub refused-below : (x : Float) → lt x (fin false 0 (pos 0)) ≡ true → factorAnswer x ≡ refused 12
-unfolding factorAnswer factorOf lt
+unfolding factorAnswer times lt
 refused-below nan e = refl
 refused-below (inf s) e = refl
 refused-below (fin true m k) e = rw (ne-eqb (m * up k) 0 (not-zero (m * up k) (down k) e))
@@ -38,11 +39,36 @@ past-four : (v d : ℕ) → ltb (1 * 2 ^ 2 * d) (v * 1) ≡ true → 4 * d < v
 past-four v d e = let l = ltb-true (1 * 2 ^ 2 * d) (v * 1) e in omega arith
 
 pub refused-above : (x : Float) → lt (fin false 1 (pos 2)) x ≡ true → factorAnswer x ≡ refused 12
-unfolding factorAnswer factorOf lt
+unfolding factorAnswer times lt
 refused-above nan e = refl
 refused-above (inf s) e = refl
 refused-above (fin true m k) e = absurd (true-is-not-false (sym e))
 refused-above (fin false m k) e = rw (lt-leb (m * up k) (4 * down k) (past-four (m * up k) (down k) e))
+
+-- ---- the rounding
+
+-- g is nearest to a/b, a tie upward: (2g-1)/2 <= a/b < (2g+1)/2
+abbrev pub Rounded : ℕ → ℕ → ℕ → Type 0
+Rounded a b g = ((2 * g - 1) * b ≤ 2 * a) × (2 * a < (2 * g + 1) * b)
+
+half-below : (g r a b : ℕ) → g * (2 * b) + r ≡ 2 * a + b → (2 * g - 1) * b ≤ 2 * a
+half-below zero r a b e = omega arith
+half-below (suc g) r a b e =
+    let odd : 2 * suc g - 1 ≡ 2 * g + 1 = omega arith in
+    rw odd (omega arith)
+
+pub rounded : (a b : ℕ) → 0 < b → Rounded a b (nearest a b)
+rounded a b p =
+    let here : 0 < 2 * b = omega arith in
+    let quotient = div-add-mod' (2 * a + b) (2 * b) in
+    let rest = mod-lt (2 * a + b) here in
+    (half-below (nearest a b) ((2 * a + b) % (2 * b)) a b quotient, omega arith)
+
+pub one-rounded : (a b g h : ℕ) → Rounded a b g → Rounded a b h → g ≡ h
+one-rounded a b g h p q =
+    let up : 2 * g - 1 < 2 * h + 1 = lt-of-mul-lt-mul-right b (lt-of-le-of-lt (p .0) (q .1)) in
+    let back : 2 * h - 1 < 2 * g + 1 = lt-of-mul-lt-mul-right b (lt-of-le-of-lt (q .0) (p .1)) in
+    omega arith
 
 -- ---- accepted
 
@@ -72,7 +98,7 @@ half-steps nan = 0
 half-steps (inf s) = 0
 half-steps (fin s m e) = m * up e * 2 ^ 13 / down e
 
-at-most-four : (s : Bool) (v d : ℕ) → upToFour s v d ≡ true → v ≤ 4 * d
+pub at-most-four : (s : Bool) (v d : ℕ) → upToFour s v d ≡ true → v ≤ 4 * d
 at-most-four true v d e = let z = eqb-true v 0 e in omega arith
 at-most-four false v d e = leb-true v (4 * d) e
 
@@ -111,7 +137,7 @@ half-step v d p =
     ∙ ap (λ (x : ℕ). x / 2) (add-div-right (v * 2 ^ 13) p)
 
 pub accepted-steps : (x : Float) → Accepted x → factorAnswer x ≡ accepted (pos ((half-steps x + 1) / 2))
-unfolding factorAnswer factorOf half-steps
+unfolding factorAnswer times half-steps
 accepted-steps nan a = absurd a
 accepted-steps (inf s) a = absurd a
 accepted-steps (fin s m e) a = rw (a, half-step (m * up e) (down e) (down-pos e))

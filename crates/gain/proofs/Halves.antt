@@ -11,14 +11,15 @@ use lib.IntN.{ℤ, pos, negsuc, negℤ, natAbs}
 use lib.Ieee.{Float, nan, inf, fin, up, down, level, eq}
 use lib.Ieee.Fits.{up-pos, down-pos}
 use Rattle.gain.specs.Table.{entry}
-use Rattle.gain.specs.Answer.{Answer, accepted, refused, signed, Half, halfDecibels, decibelsAnswer}
+use Rattle.gain.specs.Answer.{Answer, accepted, refused}
+use Rattle.gain.specs.Decibels.{signed, Half, twice, decibelsAnswer}
 
 -- ---- tests
 
 pub true-is-not-false : true ≡ false → ⊥
 true-is-not-false e = let z : _≡_ {A = ℕ} 0 1 = cc in omega arith
 
-both-true : (a b : Bool) → (a && b) ≡ true → (a ≡ true) × (b ≡ true)
+pub both-true : (a b : Bool) → (a && b) ≡ true → (a ≡ true) × (b ≡ true)
 both-true true b e = (refl, e)
 both-true false b e = absurd (true-is-not-false (sym e))
 
@@ -32,7 +33,7 @@ beq-self false = refl
 
 -- ---- signs
 
-signed-size : (s : Bool) (k : ℕ) → natAbs (signed s k) ≡ k
+pub signed-size : (s : Bool) (k : ℕ) → natAbs (signed s k) ≡ k
 signed-size true zero = refl
 signed-size true (suc k) = refl
 signed-size false k = refl
@@ -118,7 +119,7 @@ equal-halves (fin s m d) (fin t k c) n g h =
 -- ---- the promise
 
 pub accepted-half : (x : Float) (n : ℤ) → natAbs n ≤ 24 → Half x n → decibelsAnswer x ≡ accepted (pos (entry n))
-unfolding decibelsAnswer halfDecibels
+unfolding decibelsAnswer twice
 accepted-half nan n l h = absurd h
 accepted-half (inf s) n l h = absurd h
 accepted-half (fin s m e) n l h =
@@ -137,7 +138,7 @@ whole-half s t d e =
     rw signed-size (omega arith, refl, l)
 
 pub refused-half : (x : Float) → ((n : ℤ) → natAbs n ≤ 24 → Half x n → ⊥) → decibelsAnswer x ≡ refused 11
-unfolding decibelsAnswer halfDecibels
+unfolding decibelsAnswer twice
 refused-half nan none = refl
 refused-half (inf s) none = refl
 refused-half (fin s m e) none = go (eqb (2 * (m * up e) % down e) 0 && leb (2 * (m * up e) / down e) 24) refl

@@ -3,3 +3,4 @@ pub mod Halves
 pub mod Table
 pub mod Product
 pub mod Factors
+pub mod Answers

@@ -3,7 +3,8 @@ use crate::Gained;
 ghost use mathlib.Core.Path.{_≡_};
 ghost use Prim.Native.Nat.{_<_};
 ghost use lib.IntN.{pos, _-ℤ_};
-ghost use Rattle.gain.specs.Answer.{answerOf, decibelsAnswer, Half};
+ghost use Rattle.gain.specs.Answer.{answerOf};
+ghost use Rattle.gain.specs.Decibels.{decibelsAnswer, Half};
 ghost use Rattle.gain.specs.Table.{entry};
 
 // Entry i is the nearest whole number to 4,096·10^((i - 24)/40).

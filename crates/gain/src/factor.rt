@@ -1,7 +1,8 @@
 // A factor to a gain: 4,096 times as large, to the nearest whole number, a tie upward.
 use crate::Gained;
 ghost use mathlib.Core.Path.{_≡_};
-ghost use Rattle.gain.specs.Answer.{answerOf, factorAnswer};
+ghost use Rattle.gain.specs.Answer.{answerOf};
+ghost use Rattle.gain.specs.Factor.{factorAnswer};
 
 pub fn factor(x: f32) -> Gained
     ensures { λ r. ⌜ answerOf r ≡ factorAnswer x ⌝ }

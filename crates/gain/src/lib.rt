@@ -1,6 +1,7 @@
 // Gain commands: decibels, a factor, or off, each answered by a gain or a refusal.
 ghost use mathlib.Core.Path.{_≡_};
-ghost use Rattle.gain.specs.Answer.{answerOf, answerTo};
+ghost use Rattle.gain.specs.Answer.{answerOf};
+ghost use Rattle.gain.specs.Promise.{answerTo};
 
 mod decibels;
 mod factor;

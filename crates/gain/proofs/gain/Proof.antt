@@ -2,7 +2,7 @@
 -- Assumes nothing.
 use mathlib.Core.Path.{sym, ap, _∙_}
 use borrow.Author.Needs.{needs}
-use Rattle.gain.specs.Answer.{answerTo}
+use Rattle.gain.specs.Promise.{answerTo}
 use Rattle.gain.proofs.gain.Statement.{statement}
 use Rattle.gain.proofs.gain.Tie as tie
 

@@ -10,7 +10,8 @@ use lib.IntN.{ℤ, pos, natAbs, _+ℤ_, _-ℤ_}
 use lib.Ieee.{Float, eq}
 use mir.Facts.{toZ-ofZ}
 use Rattle.gain.specs.Table.{entry}
-use Rattle.gain.specs.Answer.{Answer, accepted, refused, Half, decibelsAnswer}
+use Rattle.gain.specs.Answer.{Answer, accepted, refused}
+use Rattle.gain.specs.Decibels.{Half, decibelsAnswer}
 use Rattle.gain.proofs.Every.{place-below, place-back, place-range}
 use Rattle.gain.proofs.Halves.{true-is-not-false, half-of-equal, equal-halves, accepted-half, refused-half}
 use Rattle.gain.proofs.decibels.decibels.Statement.{statement}

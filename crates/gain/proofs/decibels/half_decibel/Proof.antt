@@ -8,7 +8,7 @@ use lib.Dec.{T, eqb, eqb→eq}
 use lib.IntN.{ℤ, pos, negsuc, natAbs, _-ℤ_}
 use lib.Ieee.{Float, nan, inf, fin, up, down, binary32, mul, sub, ofInt, ofBits, round}
 use lib.Ieee.Fits.{and-l, and-r}
-use Rattle.gain.specs.Answer.{signed, Half}
+use Rattle.gain.specs.Decibels.{signed, Half}
 use Rattle.gain.proofs.Every.{at}
 use Rattle.gain.proofs.decibels.half_decibel.Statement.{statement}
 use Rattle.gain.proofs.decibels.half_decibel.Tie as tie
