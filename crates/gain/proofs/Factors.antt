@@ -1,49 +1,20 @@
 -- What the promise says of a factor: which floats are refused, and the gain of the others in half steps.
 -- Assumes nothing.
 use mathlib.Core.Path.{_≡_, refl, sym, ap, _∙_, subst}
-use mathlib.Core.Bool.{Bool, true, false, cond}
+use mathlib.Core.Bool.{Bool, true, false}
 use Prim.Native.Nat.{ℕ, zero, suc, _+_, _-_, _*_, _/_, _%_, _^_, _≤_, _<_}
 use native.Mathlib.Nat.{add-div-right, div-div-eq-div-mul, div-le-of-le-mul, mul-comm, mul-lt-mul-of-pos-right, div-add-mod', mod-lt, lt-of-mul-lt-mul-right, lt-of-le-of-lt}
 use native.Mathlib.Omega.{arith}
 use borrow.Author.Tests.{ltb-true, ltb-false, eqb-true, leb-true, eq-eqb, ne-eqb, le-leb, lt-leb}
-use lib.Dec.{T, leb, ltb, eqb, lit<}
-use lib.IntN.{ℤ, pos, negsuc}
+use lib.Dec.{T, ltb, lit<}
+use lib.IntN.{pos}
 use lib.Ieee.{Float, nan, inf, fin, binary32, up, down, lt, ne, mul, fits}
 use lib.Ieee.Compare.{differs-from-itself}
 use lib.Ieee.Fits.{down-pos}
-use Rattle.gain.specs.Answer.{Answer, accepted, refused}
+use Rattle.gain.specs.Answer.{accepted, refused}
 use Rattle.gain.specs.Factor.{nearest, upToFour, times, factorAnswer}
 use Rattle.gain.proofs.Halves.{true-is-not-false}
 use Rattle.gain.proofs.Product.{exact, Cut, cut}
-
--- ---- refused
-
-pub refused-nan : (x : Float) → ne x x ≡ true → factorAnswer x ≡ refused 12
-unfolding factorAnswer
-refused-nan x e = rw (differs-from-itself x (subst T (sym e) tt))
-
-not-zero : (v d : ℕ) → ltb 0 (v * 1 + 0 * 1 * d) ≡ true → v ≡ 0 → ⊥
-not-zero v d e z = let l = ltb-true 0 (v * 1 + 0 * 1 * d) e in omega arith
-
-none-below : (v d : ℕ) → ltb (v * 1) (0 * 1 * d) ≡ true → ⊥
-none-below v d e = let l = ltb-true (v * 1) (0 * 1 * d) e in omega arith
-
-pub refused-below : (x : Float) → lt x (fin false 0 (pos 0)) ≡ true → factorAnswer x ≡ refused 12
-unfolding factorAnswer times lt
-refused-below nan e = refl
-refused-below (inf s) e = refl
-refused-below (fin true m k) e = rw (ne-eqb (m * up k) 0 (not-zero (m * up k) (down k) e))
-refused-below (fin false m k) e = absurd (none-below (m * up k) (down k) e)
-
-past-four : (v d : ℕ) → ltb (1 * 2 ^ 2 * d) (v * 1) ≡ true → 4 * d < v
-past-four v d e = let l = ltb-true (1 * 2 ^ 2 * d) (v * 1) e in omega arith
-
-pub refused-above : (x : Float) → lt (fin false 1 (pos 2)) x ≡ true → factorAnswer x ≡ refused 12
-unfolding factorAnswer times lt
-refused-above nan e = refl
-refused-above (inf s) e = refl
-refused-above (fin true m k) e = absurd (true-is-not-false (sym e))
-refused-above (fin false m k) e = rw (lt-leb (m * up k) (4 * down k) (past-four (m * up k) (down k) e))
 
 -- ---- the rounding
 
@@ -141,3 +112,32 @@ unfolding factorAnswer times half-steps
 accepted-steps nan a = absurd a
 accepted-steps (inf s) a = absurd a
 accepted-steps (fin s m e) a = rw (a, half-step (m * up e) (down e) (down-pos e))
+
+-- ---- refused
+
+pub refused-nan : (x : Float) → ne x x ≡ true → factorAnswer x ≡ refused 12
+unfolding factorAnswer
+refused-nan x e = rw (differs-from-itself x (subst T (sym e) tt))
+
+not-zero : (v d : ℕ) → ltb 0 (v * 1 + 0 * 1 * d) ≡ true → v ≡ 0 → ⊥
+not-zero v d e z = let l = ltb-true 0 (v * 1 + 0 * 1 * d) e in omega arith
+
+none-below : (v d : ℕ) → ltb (v * 1) (0 * 1 * d) ≡ true → ⊥
+none-below v d e = let l = ltb-true (v * 1) (0 * 1 * d) e in omega arith
+
+pub refused-below : (x : Float) → lt x (fin false 0 (pos 0)) ≡ true → factorAnswer x ≡ refused 12
+unfolding factorAnswer times lt
+refused-below nan e = refl
+refused-below (inf s) e = refl
+refused-below (fin true m k) e = rw (ne-eqb (m * up k) 0 (not-zero (m * up k) (down k) e))
+refused-below (fin false m k) e = absurd (none-below (m * up k) (down k) e)
+
+past-four : (v d : ℕ) → ltb (1 * 2 ^ 2 * d) (v * 1) ≡ true → 4 * d < v
+past-four v d e = let l = ltb-true (1 * 2 ^ 2 * d) (v * 1) e in omega arith
+
+pub refused-above : (x : Float) → lt (fin false 1 (pos 2)) x ≡ true → factorAnswer x ≡ refused 12
+unfolding factorAnswer times lt
+refused-above nan e = refl
+refused-above (inf s) e = refl
+refused-above (fin true m k) e = absurd (true-is-not-false (sym e))
+refused-above (fin false m k) e = rw (lt-leb (m * up k) (4 * down k) (past-four (m * up k) (down k) e))

@@ -1,17 +1,17 @@
 -- Floats with the value n/2: which floats equal one, and what the promise says of them.
 -- Assumes nothing.
-use mathlib.Core.Path.{_≡_, refl, sym, ap, _∙_, subst}
-use mathlib.Core.Bool.{Bool, true, false, not, cond, _&&_, _||_, Bool·beq}
-use Prim.Native.Nat.{ℕ, zero, suc, _+_, _*_, _/_, _%_, _≤_, _<_}
+use mathlib.Core.Path.{_≡_, refl, sym, ap, _∙_}
+use mathlib.Core.Bool.{Bool, true, false, cond, _&&_, _||_, Bool·beq}
+use Prim.Native.Nat.{ℕ, zero, suc, _*_, _/_, _%_, _≤_, _<_}
 use native.Mathlib.Nat.{eq-of-mul-eq-mul-right, mul-div-cancel, mul-mod-left, div-add-mod', zero-mul}
 use native.Mathlib.Omega.{arith}
 use borrow.Author.Tests.{eqb-true, leb-true, eq-eqb, le-leb}
 use lib.Dec.{leb, eqb}
-use lib.IntN.{ℤ, pos, negsuc, negℤ, natAbs}
+use lib.IntN.{ℤ, pos, natAbs}
 use lib.Ieee.{Float, nan, inf, fin, up, down, level, eq}
-use lib.Ieee.Fits.{up-pos, down-pos}
+use lib.Ieee.Fits.{down-pos}
 use Rattle.gain.specs.Table.{entry}
-use Rattle.gain.specs.Answer.{Answer, accepted, refused}
+use Rattle.gain.specs.Answer.{accepted, refused}
 use Rattle.gain.specs.Decibels.{signed, Half, twice, decibelsAnswer}
 
 -- ---- tests

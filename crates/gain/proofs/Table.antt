@@ -1,18 +1,18 @@
 -- The table of 49 gains: its rule at every half decibel, by one computed test, and what follows for its entries.
 -- Assumes nothing.
-use mathlib.Core.Path.{_≡_, refl, sym, ap, _∙_, subst}
+use mathlib.Core.Path.{_≡_, refl}
 use mathlib.Core.Bool.{Bool, true, false, not, _&&_, _||_}
 use mathlib.Core.List.{List, [], _∷_}
 use Prim.Native.Nat.{ℕ, zero, suc, _+_, _-_, _*_, _^_, _≤_, _<_}
 use native.Mathlib.Nat.{le-antisymm, le-of-suc-le-suc, lt-of-le-of-lt, lt-of-not-le, not-le-of-lt, lt-of-mul-lt-mul-right, pow-le-pow-left}
 use native.Mathlib.Omega.{arith}
 use lib.Dec.{T, leb, ltb, eqb, leb→le, ltb→lt, eqb→eq}
-use lib.IntN.{ℤ, pos, negsuc, negℤ, natAbs, _+ℤ_, _-ℤ_}
+use lib.IntN.{ℤ, pos, negsuc, negℤ, natAbs, _-ℤ_}
 use lib.Ieee.Fits.{and-l, and-r}
 use lib.ListN.{getD}
 use lib.Signed.{ltZ, _<ℤ_}
 use Rattle.gain.specs.Table.{gains, entry, Nearest}
-use Rattle.gain.proofs.Every.{below, at, every, at-half, at-place}
+use Rattle.gain.proofs.Every.{at, every, at-half}
 
 -- ---- the rule
 

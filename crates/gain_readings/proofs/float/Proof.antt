@@ -1,10 +1,7 @@
 -- `gain_readings::float` is safe: a pattern up to infinity's is no NaN's. Assumes nothing.
-use mathlib.Core.Path.{_∙_}
-use mathlib.Core.Bool.{Bool, not}
 use Prim.Native.Nat.{_%_, _*_}
 use borrow.Author.Needs.{needs}
 use borrow.Author.Tests.{le-ltb}
-use lib.Dec.{T}
 use lib.Ieee.{binary32, top, hid, ones}
 use lib.Ieee.Bits.{nanBits-above}
 use Rattle.gain_readings.proofs.float.Statement.{statement}

@@ -1,8 +1,8 @@
 -- `gain::decibels::decibels` meets its contract. The loop's invariant: no half decibel passed so far is x's value.
 -- Assumes nothing.
 use mathlib.Core.Path.{_≡_, sym, ap, _∙_, subst}
-use mathlib.Core.Bool.{Bool, true, false}
-use Prim.Native.Nat.{ℕ, _+_, _-_, _≤_, _<_}
+use mathlib.Core.Bool.{true, false}
+use Prim.Native.Nat.{ℕ, _-_, _≤_, _<_}
 use native.Mathlib.Omega.{arith}
 use borrow.Author.Needs.{needs}
 use borrow.Author.Count.{below-more}
@@ -10,16 +10,12 @@ use lib.IntN.{ℤ, pos, natAbs, _+ℤ_, _-ℤ_}
 use lib.Ieee.{Float, eq}
 use mir.Facts.{toZ-ofZ}
 use Rattle.gain.specs.Table.{entry}
-use Rattle.gain.specs.Answer.{Answer, accepted, refused}
+use Rattle.gain.specs.Answer.{accepted, refused}
 use Rattle.gain.specs.Decibels.{Half, decibelsAnswer}
 use Rattle.gain.proofs.Every.{place-below, place-back, place-range}
 use Rattle.gain.proofs.Halves.{true-is-not-false, half-of-equal, equal-halves, accepted-half, refused-half}
 use Rattle.gain.proofs.decibels.decibels.Statement.{statement}
 use Rattle.gain.proofs.decibels.decibels.Tie as tie
-use Rattle.gain.proofs.decibels.decibels.Reads as reads
-use Rattle.gain.proofs.decibels.decibels.Lts as lts
-use Rattle.gain.proofs.decibels.gain_at.Reads as gain-at-reads
-use Rattle.gain.proofs.decibels.half_decibel.Reads as half-decibel-reads
 
 abbrev Inv-loop : tie.InvT-loop
 Inv-loop x i₀ i = (i ≤ 49) × ((k : ℕ) → k < i → Half x (pos k -ℤ pos 24) → ⊥)

@@ -1,15 +1,13 @@
 -- `gain::decibels::gain_at` meets its contract: the constant table is the promise's, entry by entry.
 -- Assumes nothing.
-use mathlib.Core.Path.{_≡_, refl, sym, ap, _∙_}
+use mathlib.Core.Path.{sym, ap, _∙_}
 use borrow.Author.Needs.{needs}
 use lib.IntN.{pos}
 use mir.Facts.{toZ-ofZ}
 use Rattle.gain.specs.Table.{gains}
-use Rattle.gain.proofs.Table.{entry-at, positives, getD-positives}
+use Rattle.gain.proofs.Table.{entry-at, getD-positives}
 use Rattle.gain.proofs.decibels.gain_at.Statement.{statement}
 use Rattle.gain.proofs.decibels.gain_at.Tie as tie
-use Rattle.gain.proofs.decibels.gain_at.Reads as reads
-use Rattle.gain.proofs.decibels.gain_at.Lts as lts
 
 mul-result : tie.Need-mul-result
 mul-result c = search needs

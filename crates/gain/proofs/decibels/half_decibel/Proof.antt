@@ -1,7 +1,7 @@
 -- `gain::decibels::half_decibel` meets its contract: the 49 floats are computed, and each has the value (i - 24)/2.
 -- Assumes nothing.
-use mathlib.Core.Path.{_≡_, refl, sym, ap, _∙_}
-use mathlib.Core.Bool.{Bool, true, false, _&&_}
+use mathlib.Core.Path.{_≡_, ap}
+use mathlib.Core.Bool.{Bool, false, _&&_}
 use Prim.Native.Nat.{ℕ, _*_}
 use borrow.Author.Needs.{needs}
 use lib.Dec.{T, eqb, eqb→eq}
@@ -12,8 +12,6 @@ use Rattle.gain.specs.Decibels.{signed, Half}
 use Rattle.gain.proofs.Every.{at}
 use Rattle.gain.proofs.decibels.half_decibel.Statement.{statement}
 use Rattle.gain.proofs.decibels.half_decibel.Tie as tie
-use Rattle.gain.proofs.decibels.half_decibel.Reads as reads
-use Rattle.gain.proofs.decibels.half_decibel.Lts as lts
 
 same : ℤ → ℤ → Bool
 same (pos a) (pos b) = eqb a b

@@ -1,7 +1,7 @@
 -- `gain::factor::factor` meets its contract. The product with 8,192 is exact, its whole part counts the half steps of gain, and
 -- half of one more than that is the nearest gain, a tie upward.
 -- Assumes nothing.
-use mathlib.Core.Path.{_≡_, refl, sym, ap, _∙_, subst}
+use mathlib.Core.Path.{_≡_, sym, ap, _∙_}
 use Prim.Native.Nat.{ℕ, _+_, _/_, _≤_}
 use native.Mathlib.Omega.{arith}
 use lib.IntN.{pos}
@@ -13,9 +13,6 @@ use Rattle.gain.specs.Answer.{accepted}
 use Rattle.gain.proofs.Factors.{Accepted, refused-nan, refused-below, refused-above, not-refused, half-steps, few-steps, steps-cut, accepted-steps}
 use Rattle.gain.proofs.factor.factor.Statement.{statement}
 use Rattle.gain.proofs.factor.factor.Tie as tie
-use Rattle.gain.proofs.factor.factor.Reads as reads
-use Rattle.gain.proofs.factor.factor.Lts as lts
-use Rattle.std.proofs.num.truncating_f32_to_u64.Reads as truncating-f32-to-u64-reads
 
 -- past the three tests
 kept : (c : tie.Else3) → Accepted (c .before .before .before .args .x)
