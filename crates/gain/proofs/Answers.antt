@@ -12,8 +12,8 @@ use lib.Ieee.{Float, nan, inf, fin, up, down}
 use lib.Ieee.Fits.{down-pos}
 use lib.Signed.{_≤ℤ_}
 use Rattle.gain.specs.Answer.{Answer, accepted, refused, answerOf}
-use Rattle.gain.specs.Decibels.{signed, twice, decibelsAnswer}
-use Rattle.gain.specs.Factor.{nearest, upToFour, times, factorAnswer}
+use Rattle.gain.specs.Decibels.{signed, halfDecibels, decibelsAnswer}
+use Rattle.gain.specs.Factor.{nearest, upToFour, factorOf, factorAnswer}
 use Rattle.gain.specs.Promise.{answerTo}
 use Rattle.gain.specs.Table.{entry}
 use Rattle.gain.specs.declared.Command.{Command}
@@ -34,17 +34,17 @@ Within (refused k) = Unit {0}
 within-small : (g : ℕ) → g ≤ 16384 → Within (accepted (pos g))
 within-small g h = (record { le = le→leb 0 g (omega arith) }, record { le = le→leb g 16384 h })
 
-within-twice : (s : Bool) (t d : ℕ) (b : Bool) → (eqb (t % d) 0 && leb (t / d) 24) ≡ b → Within (cond b (accepted (pos (entry (signed s (t / d))))) (refused 11))
-within-twice s t d true e =
+within-halves : (s : Bool) (t d : ℕ) (b : Bool) → (eqb (t % d) 0 && leb (t / d) 24) ≡ b → Within (cond b (accepted (pos (entry (signed s (t / d))))) (refused 11))
+within-halves s t d true e =
     let l = leb-true (t / d) 24 (both-true (eqb (t % d) 0) (leb (t / d) 24) e .1) in
     within-small (entry (signed s (t / d))) (entry-small (signed s (t / d)) (rw (signed-size s (t / d)) l))
-within-twice s t d false e = tt
+within-halves s t d false e = tt
 
 within-decibels : (x : Float) → Within (decibelsAnswer x)
-unfolding decibelsAnswer twice
+unfolding decibelsAnswer halfDecibels
 within-decibels nan = tt
 within-decibels (inf s) = tt
-within-decibels (fin s m e) = within-twice s (2 * (m * up e)) (down e) (eqb (2 * (m * up e) % down e) 0 && leb (2 * (m * up e) / down e) 24) refl
+within-decibels (fin s m e) = within-halves s (2 * (m * up e)) (down e) (eqb (2 * (m * up e) % down e) 0 && leb (2 * (m * up e) / down e) 24) refl
 
 small-factor : (v d : ℕ) → 0 < d → v ≤ 4 * d → nearest (4096 * v) d ≤ 16384
 small-factor v d p l =
@@ -52,15 +52,15 @@ small-factor v d p l =
     let top : 2 * (4096 * v) + d < 16385 * (2 * d) = omega arith in
     le-of-suc-le-suc (div-lt-iff-lt-mul here .1 top)
 
-within-times : (s : Bool) (v d : ℕ) → 0 < d → (b : Bool) → upToFour s v d ≡ b → Within (cond b (accepted (pos (nearest (4096 * v) d))) (refused 12))
-within-times s v d p true e = within-small (nearest (4096 * v) d) (small-factor v d p (at-most-four s v d e))
-within-times s v d p false e = tt
+within-scaled : (s : Bool) (v d : ℕ) → 0 < d → (b : Bool) → upToFour s v d ≡ b → Within (cond b (accepted (pos (nearest (4096 * v) d))) (refused 12))
+within-scaled s v d p true e = within-small (nearest (4096 * v) d) (small-factor v d p (at-most-four s v d e))
+within-scaled s v d p false e = tt
 
 within-factor : (x : Float) → Within (factorAnswer x)
-unfolding factorAnswer times
+unfolding factorAnswer factorOf
 within-factor nan = tt
 within-factor (inf s) = tt
-within-factor (fin s m e) = within-times s (m * up e) (down e) (down-pos e) (upToFour s (m * up e) (down e)) refl
+within-factor (fin s m e) = within-scaled s (m * up e) (down e) (down-pos e) (upToFour s (m * up e) (down e)) refl
 
 within-answer : (c : Command) → Within (answerTo c)
 unfolding answerTo

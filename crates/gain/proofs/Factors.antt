@@ -12,7 +12,7 @@ use lib.Ieee.{Float, nan, inf, fin, binary32, up, down, lt, ne, mul, fits}
 use lib.Ieee.Compare.{differs-from-itself}
 use lib.Ieee.Fits.{down-pos}
 use Rattle.gain.specs.Answer.{accepted, refused}
-use Rattle.gain.specs.Factor.{nearest, upToFour, times, factorAnswer}
+use Rattle.gain.specs.Factor.{nearest, upToFour, factorOf, factorAnswer}
 use Rattle.gain.proofs.Halves.{true-is-not-false}
 use Rattle.gain.proofs.Product.{exact, Cut, cut}
 
@@ -28,6 +28,7 @@ half-below (suc g) r a b e =
     let odd : 2 * suc g - 1 ≡ 2 * g + 1 = omega arith in
     rw odd (omega arith)
 
+-- the promise's rounding is to the nearest, a tie upward
 pub rounded : (a b : ℕ) → 0 < b → Rounded a b (nearest a b)
 rounded a b p =
     let here : 0 < 2 * b = omega arith in
@@ -35,6 +36,7 @@ rounded a b p =
     let rest = mod-lt (2 * a + b) here in
     (half-below (nearest a b) ((2 * a + b) % (2 * b)) a b quotient, omega arith)
 
+-- no second number is nearest
 pub one-rounded : (a b g h : ℕ) → Rounded a b g → Rounded a b h → g ≡ h
 one-rounded a b g h p q =
     let up : 2 * g - 1 < 2 * h + 1 = lt-of-mul-lt-mul-right b (lt-of-le-of-lt (p .0) (q .1)) in
@@ -55,6 +57,7 @@ zero-left v d e = let l = ltb-false 0 (v * 1 + 0 * 1 * d) e in omega arith
 four-at-most : (v d : ℕ) → ltb (1 * 2 ^ 2 * d) (v * 1) ≡ false → v ≤ 4 * d
 four-at-most v d e = let l = ltb-false (1 * 2 ^ 2 * d) (v * 1) e in omega arith
 
+-- past the three tests of the code
 pub not-refused : (x : Float) → ne x x ≡ false → lt x (fin false 0 (pos 0)) ≡ false → lt (fin false 1 (pos 2)) x ≡ false → Accepted x
 unfolding ne lt
 not-refused nan d l g = absurd (true-is-not-false d)
@@ -86,6 +89,7 @@ few-steps (fin s m e) a = let l = at-most-four s (m * up e) (down e) a in div-le
 steps-under : (v d t : ℕ) → 0 < d → v ≤ 4 * d → 32768 < t → v * 2 ^ 13 < t * d
 steps-under v d t p l h = omega (arith, mul-lt-mul-of-pos-right h p)
 
+-- the product is exact, and its whole part is the half steps
 pub steps-cut : (x : Float) → fits binary32 x ≡ true → Accepted x → Cut (mul binary32 x (fin false 1 (pos 13))) (half-steps x)
 unfolding half-steps
 steps-cut nan f a = absurd a
@@ -108,7 +112,7 @@ half-step v d p =
     ∙ ap (λ (x : ℕ). x / 2) (add-div-right (v * 2 ^ 13) p)
 
 pub accepted-steps : (x : Float) → Accepted x → factorAnswer x ≡ accepted (pos ((half-steps x + 1) / 2))
-unfolding factorAnswer times half-steps
+unfolding factorAnswer factorOf half-steps
 accepted-steps nan a = absurd a
 accepted-steps (inf s) a = absurd a
 accepted-steps (fin s m e) a = rw (a, half-step (m * up e) (down e) (down-pos e))
@@ -126,7 +130,7 @@ none-below : (v d : ℕ) → ltb (v * 1) (0 * 1 * d) ≡ true → ⊥
 none-below v d e = let l = ltb-true (v * 1) (0 * 1 * d) e in omega arith
 
 pub refused-below : (x : Float) → lt x (fin false 0 (pos 0)) ≡ true → factorAnswer x ≡ refused 12
-unfolding factorAnswer times lt
+unfolding factorAnswer factorOf lt
 refused-below nan e = refl
 refused-below (inf s) e = refl
 refused-below (fin true m k) e = rw (ne-eqb (m * up k) 0 (not-zero (m * up k) (down k) e))
@@ -136,7 +140,7 @@ past-four : (v d : ℕ) → ltb (1 * 2 ^ 2 * d) (v * 1) ≡ true → 4 * d < v
 past-four v d e = let l = ltb-true (1 * 2 ^ 2 * d) (v * 1) e in omega arith
 
 pub refused-above : (x : Float) → lt (fin false 1 (pos 2)) x ≡ true → factorAnswer x ≡ refused 12
-unfolding factorAnswer times lt
+unfolding factorAnswer factorOf lt
 refused-above nan e = refl
 refused-above (inf s) e = refl
 refused-above (fin true m k) e = absurd (true-is-not-false (sym e))

@@ -12,7 +12,7 @@ use lib.Ieee.{Float, nan, inf, fin, up, down, level, eq}
 use lib.Ieee.Fits.{down-pos}
 use Rattle.gain.specs.Table.{entry}
 use Rattle.gain.specs.Answer.{accepted, refused}
-use Rattle.gain.specs.Decibels.{signed, Half, twice, decibelsAnswer}
+use Rattle.gain.specs.Decibels.{signed, Half, halfDecibels, decibelsAnswer}
 
 -- ---- tests
 
@@ -116,10 +116,11 @@ equal-halves (fin s m d) (fin t k c) n g h =
     (λ z. no-half (m * up d) (down d) (down c) (natAbs n) (g .0) z)
     (g .1 ∙ sym (h .1))
 
--- ---- the promise
+-- ---- the promise: accepted exactly if a whole n from -24 to 24 exists with value n/2
 
+-- such an n, and the gain is its entry
 pub accepted-half : (x : Float) (n : ℤ) → natAbs n ≤ 24 → Half x n → decibelsAnswer x ≡ accepted (pos (entry n))
-unfolding decibelsAnswer twice
+unfolding decibelsAnswer halfDecibels
 accepted-half nan n l h = absurd h
 accepted-half (inf s) n l h = absurd h
 accepted-half (fin s m e) n l h =
@@ -128,6 +129,7 @@ accepted-half (fin s m e) n l h =
     let r : 2 * (m * up e) % d ≡ 0 = ap (λ (t : ℕ). t % d) (h .0) ∙ mul-mod-left (natAbs n) d in
     rw (q, r, le-leb (natAbs n) 24 l, h .1)
 
+-- what the promise's test finds is such an n
 whole-half : (s : Bool) (t d : ℕ) → (eqb (t % d) 0 && leb (t / d) 24) ≡ true
     → (t ≡ natAbs (signed s (t / d)) * d) × (signed s (natAbs (signed s (t / d))) ≡ signed s (t / d)) × (natAbs (signed s (t / d)) ≤ 24)
 whole-half s t d e =
@@ -137,8 +139,9 @@ whole-half s t d e =
     let sum = div-add-mod' t d in
     rw signed-size (omega arith, refl, l)
 
+-- no such n, and the answer is refusal 11
 pub refused-half : (x : Float) → ((n : ℤ) → natAbs n ≤ 24 → Half x n → ⊥) → decibelsAnswer x ≡ refused 11
-unfolding decibelsAnswer twice
+unfolding decibelsAnswer halfDecibels
 refused-half nan none = refl
 refused-half (inf s) none = refl
 refused-half (fin s m e) none = go (eqb (2 * (m * up e) % down e) 0 && leb (2 * (m * up e) / down e) 24) refl

@@ -18,14 +18,14 @@ Half nan n = ⊥
 Half (inf s) n = ⊥
 Half (fin s m e) n = (2 * (m * up e) ≡ natAbs n * down e) × (signed s (natAbs n) ≡ n)
 
--- "accepted exactly if a whole n from -24 to 24 exists with value n/2": twice the value, ±t/d, is that n
-unfoldable pub twice : Bool → ℕ → ℕ → Answer
+-- "accepted exactly if a whole n from -24 to 24 exists with value n/2": of ±t/d half decibels, t/d is whole and at most 24, and n is ±t/d
+unfoldable pub halfDecibels : Bool → ℕ → ℕ → Answer
 unfolding entry
-twice s t d = cond (eqb (t % d) 0 && leb (t / d) 24) (accepted (pos (entry (signed s (t / d))))) (refused 11)
+halfDecibels s t d = cond (eqb (t % d) 0 && leb (t / d) 24) (accepted (pos (entry (signed s (t / d))))) (refused 11)
 
--- "Decibels": of ±m·2^e, and "NaN and infinities too"
+-- "Decibels": ±m·2^e decibels are twice as many half decibels; and 11 for "NaN and infinities too"
 unfoldable pub decibelsAnswer : Float → Answer
-unfolding twice
+unfolding halfDecibels
 decibelsAnswer nan = refused 11
 decibelsAnswer (inf s) = refused 11
-decibelsAnswer (fin s m e) = twice s (2 * (m * up e)) (down e)
+decibelsAnswer (fin s m e) = halfDecibels s (2 * (m * up e)) (down e)

@@ -6,7 +6,7 @@ use lib.IntN.{pos}
 use lib.Ieee.{Float, nan, inf, fin, up, down}
 use Rattle.gain.specs.Answer.{Answer, accepted, refused}
 
--- "from 0 to 4, both included, -0.0 as 0": ±v/d
+-- "from 0 to 4, both included, -0.0 as 0": of ±v/d
 abbrev pub upToFour : Bool → ℕ → ℕ → Bool
 upToFour true v d = eqb v 0
 upToFour false v d = leb v (4 * d)
@@ -15,13 +15,13 @@ upToFour false v d = leb v (4 * d)
 abbrev pub nearest : ℕ → ℕ → ℕ
 nearest a b = (2 * a + b) / (2 * b)
 
--- "The gain is the factor times 4,096": of ±v/d
-unfoldable pub times : Bool → ℕ → ℕ → Answer
-times s v d = cond (upToFour s v d) (accepted (pos (nearest (4096 * v) d))) (refused 12)
+-- "The gain is the factor times 4,096, rounded": of the factor ±v/d
+unfoldable pub factorOf : Bool → ℕ → ℕ → Answer
+factorOf s v d = cond (upToFour s v d) (accepted (pos (nearest (4096 * v) d))) (refused 12)
 
--- "Factor": of ±m·2^e, and "NaN and infinities too"
+-- "Factor": ±m·2^e; and 12 for "NaN and infinities too"
 unfoldable pub factorAnswer : Float → Answer
-unfolding times
+unfolding factorOf
 factorAnswer nan = refused 12
 factorAnswer (inf s) = refused 12
-factorAnswer (fin s m e) = times s (m * up e) (down e)
+factorAnswer (fin s m e) = factorOf s (m * up e) (down e)

@@ -75,7 +75,7 @@ fn half_decibel(i: u16) -> f32
     (i as f32 - 24.0) * 0.5
 }
 
-// Equality of floats takes -0.0 for 0, and a NaN for nothing.
+// The gain of x decibels. Equality of floats takes -0.0 for 0, and a NaN for nothing.
 pub fn decibels(x: f32) -> Gained
     ensures { λ r. ⌜ answerOf r ≡ decibelsAnswer x ⌝ }
 {

@@ -12,13 +12,14 @@ pub enum Command {
     Off,
 }
 
-// 4,096 is unity. `NotHalfDecibels` is refusal 11, `NotFactor` refusal 12.
+// A gain from 0 to 16,384, where 4,096 is unity; or refusal 11, or refusal 12.
 pub enum Gained {
     Gain(i32),
     NotHalfDecibels,
     NotFactor,
 }
 
+// The one gain of a command: from the table for decibels, the nearest for a factor, 0 for off.
 pub fn gain(command: Command) -> Gained
     ensures { λ r. ⌜ answerOf r ≡ answerTo command ⌝ }
 {
