@@ -1,0 +1,6 @@
+pub mod Every
+pub mod Halves
+pub mod Table
+pub mod Product
+pub mod Factors
+pub mod Answers
