@@ -9,3 +9,8 @@ pub mod Layouts
 pub mod Keeping
 pub mod Running
 pub mod Blocking
+pub mod Rings
+pub mod Holds
+pub mod Samples
+pub mod Calls
+pub mod WholeHistory

@@ -53,7 +53,7 @@ pub below-small : {b : ℕ} {d : Stepped} {ys : List ℤ} {s a : ℤ} → b ≤ 
 below-small {b} {d} {ys} {s} {a} h done = rw (toZ-ofZ {w = w64} {z = s} (record { sfits = omega (arith, about s, done .bounded) })) (omega (arith, done .bounded))
 
 -- the tree's delay is what `aligned` reads: all of the ring but 9·L
-delay-is : (b size at L : ℕ) (lines : List ℤ) → Region published (suc (suc b)) size at L lines → size - 9 * L ≡ treeDelay published (suc (suc b)) L
+pub delay-is : (b size at L : ℕ) (lines : List ℤ) → Region published (suc (suc b)) size at L lines → size - 9 * L ≡ treeDelay published (suc (suc b)) L
 delay-is b size at L lines r =
     rw (mul-sub L (2 ^ (suc (suc b) - 1)) 1, mul-one L)
     (omega (arith, r .sized, mul-le-mul-left L (pow-mono {i = 1} {j = suc (suc b) - 1} (omega arith))))

@@ -7,3 +7,4 @@ pub mod Answer
 pub mod Memory
 pub mod Run
 pub mod Block
+pub mod History
