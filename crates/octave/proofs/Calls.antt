@@ -38,7 +38,7 @@ use Rattle.octave.proofs.Samples.{After, run-keeps, holds-none}
 
 -- ---- an accepted call
 
-not-both : {A : Type 0} {n k : ℕ} → refused n ≡ accepted k → A
+pub not-both : {A : Type 0} {n k : ℕ} → refused n ≡ accepted k → A
 not-both e = let z : _≡_ {A = ℕ} 0 1 = cc in absurd (omega arith)
 
 -- an accepted call ran its samples, and they were in range

@@ -14,3 +14,6 @@ pub mod Holds
 pub mod Samples
 pub mod Calls
 pub mod WholeHistory
+pub mod Demands
+pub mod OneAnswer
+pub mod ThrownOut

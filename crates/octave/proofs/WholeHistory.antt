@@ -43,11 +43,11 @@ output-ext M g h x n e = ap outOf (sum-ext M (λ i _. ap (λ (z : ℤ). z *ℤ h
 
 -- ---- the gains of the call that carried a sample
 
-carried-here : (c : Call) (cs : List Call) (n m : ℕ) → n < length (c .input) → carried (c ∷ cs) n m ≡ gainOf (c .gains) m
+pub carried-here : (c : Call) (cs : List Call) (n m : ℕ) → n < length (c .input) → carried (c ∷ cs) n m ≡ gainOf (c .gains) m
 unfolding carried
 carried-here c cs n m h = rw (lt-ltb n (length (c .input)) h)
 
-carried-later : (c : Call) (cs : List Call) (n m : ℕ) → length (c .input) ≤ n → carried (c ∷ cs) n m ≡ carried cs (n - length (c .input)) m
+pub carried-later : (c : Call) (cs : List Call) (n m : ℕ) → length (c .input) ≤ n → carried (c ∷ cs) n m ≡ carried cs (n - length (c .input)) m
 unfolding carried
 carried-later c cs n m h = rw (le-ltb n (length (c .input)) h)
 

@@ -4,10 +4,13 @@ use mathlib.Core.Bool.{cond}
 use mathlib.Core.List.{List, [], _∷_, _++_}
 use Prim.Native.Nat.{ℕ, zero, suc, _+_, _-_}
 use lib.Dec.{ltb}
-use lib.ListN.{length}
+use lib.ListN.{length, getD}
 use lib.IntN.{ℤ, pos}
-use Rattle.tree.specs.Signal.{gainOf}
+use Rattle.tree.specs.Prototype.{published}
+use Rattle.tree.specs.Signal.{signalOf, gainOf}
+use Rattle.tree.specs.Exact.{exactOutput}
 use Rattle.octave.specs.Answer.{accepted}
+use Rattle.octave.specs.Memory.{prepared}
 use Rattle.octave.specs.Block.{blockOf}
 
 -- a block call: its gains, its samples, and what the output block held before
@@ -49,3 +52,11 @@ carried (c ∷ cs) n m = cond (ltb n (length (c .input))) (gainOf (c .gains) m) 
 unfoldable pub from : ℕ → ℕ → (ℕ → ℤ) → List ℤ
 from n zero f = []
 from n (suc k) f = f n ∷ from (n + 1) k f
+
+-- the output that was written for sample n of calls from prepared memory
+abbrev pub written : ℕ → List Call → ℕ → ℤ
+written M cs n = getD (played (prepared M) cs .output) n (pos 0)
+
+-- 4,096·P times the exact output for sample n of those calls
+abbrev pub exact : ℕ → List Call → ℕ → ℤ
+exact M cs n = exactOutput published M (carried cs) (signalOf (joined cs)) n

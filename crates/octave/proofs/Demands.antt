@@ -1,0 +1,91 @@
+-- Demand 3 over demand 2's output: each output of accepted calls from prepared memory. Assumes nothing.
+use mathlib.Core.Path.{_≡_, sym, ap, subst, _∙_}
+use mathlib.Core.Bool.{true}
+use mathlib.Core.List.{List, [], _∷_}
+use Prim.Native.Nat.{ℕ, zero, suc, _+_, _-_, _*_, _≤_, _<_}
+use native.Mathlib.Decide.{decLt}
+use native.Mathlib.Omega.{arith}
+use borrow.Author.Tests.{lt-ltb, le-ltb}
+use lib.ListN.{length, getD, length-append, List·getD-eq-default}
+use lib.IntN.{ℤ, pos, negℤ, natAbs, _-ℤ_, _*ℤ_}
+use lib.Signed.{_≤ℤ_, _<ℤ_, leZ-yes}
+use Rattle.whole.specs.Nearest.{nearest}
+use Rattle.whole.specs.Limit.{limit, least24, most24}
+use Rattle.whole.proofs.Signed.{var, lit, le-by}
+use Rattle.tree.specs.Prototype.{published}
+use Rattle.tree.specs.Signal.{Signal, back, signalOf, gainOf}
+use Rattle.tree.specs.Tree.{delay, output}
+use Rattle.tree.specs.Exact.{commonScale, slack, farthest}
+use Rattle.tree.specs.Edges.{IsGain, AllowedGains}
+use Rattle.tree.proofs.Distance.{distance}
+use Rattle.tree.proofs.Farthest.{never-past-302}
+use Rattle.tree.proofs.EqualGains.{equal-gains}
+use Rattle.tree.proofs.NoCrack.{above-stays-above, below-stays-below}
+use Rattle.octave.specs.declared.memory.Kept.{Kept}
+use Rattle.octave.specs.declared.memory.Kept.the-variants.{Bands, CountWrong, LengthWrong, PositionOutside}
+use Rattle.octave.specs.Range.{allWithin}
+use Rattle.octave.specs.Answer.{accepted}
+use Rattle.octave.specs.Memory.{prepared, keptOf}
+use Rattle.octave.specs.Block.{blockAt, blockOf}
+use Rattle.octave.specs.History.{Call, AllAccepted, joined, carried, written, exact}
+use Rattle.octave.proofs.Ranges.{within-parts, all-at}
+use Rattle.octave.proofs.Calls.{not-both, judged-accepts}
+use Rattle.octave.proofs.WholeHistory.{output-at, carried-here, carried-later}
+
+-- ---- the gains of accepted calls are allowed
+
+accepted-gains : (kept : Kept) (m gains input before : List ℤ) (k : ℕ) → blockAt kept m gains input before .answer ≡ accepted k → allWithin (pos 0) (pos 16384) gains ≡ true
+accepted-gains (Bands bands) m gains input before k e = judged-accepts bands m gains input before k e .gains-allowed
+accepted-gains CountWrong m gains input before k e = not-both e
+accepted-gains LengthWrong m gains input before k e = not-both e
+accepted-gains PositionOutside m gains input before k e = not-both e
+
+gain-is : (gains : List ℤ) → allWithin (pos 0) (pos 16384) gains ≡ true → (m : ℕ) → IsGain (gainOf gains m)
+gain-is gains e m = by (decLt (m - 1) (length gains))
+  where
+    by : Dec (m - 1 < length gains) → IsGain (gainOf gains m)
+    by (yes h) =
+        let p = within-parts (pos 0) (pos 16384) (gainOf gains m) (all-at (pos 0) (pos 16384) gains e (m - 1) h) in
+        record { least = le-by (lit 0) (var (gainOf gains m)) (p .0); most = le-by (var (gainOf gains m)) (lit 16384) (p .1) }
+    by (no n) =
+        rw (List·getD-eq-default gains (pos 0) {n = m - 1} (omega arith)) (record { least = leZ-yes tt; most = leZ-yes tt })
+
+pub carried-allowed : (m : List ℤ) (cs : List Call) → AllAccepted m cs → (n : ℕ) → n < length (joined cs) → (k : ℕ) → IsGain (carried cs n k)
+unfolding AllAccepted joined
+carried-allowed m [] a n h k = absurd (omega arith)
+carried-allowed m (c ∷ cs) a n h k = by (decLt n (length (c .input))) (λ l. carried-allowed (blockOf m (c .gains) (c .input) (c .before) .memory) cs (a .1) (n - length (c .input)) l k)
+  where
+    by : Dec (n < length (c .input)) → (n - length (c .input) < length (joined cs) → IsGain (carried cs (n - length (c .input)) k)) → IsGain (carried (c ∷ cs) n k)
+    by (yes l) rest =
+        subst IsGain (sym (carried-here c cs n k l))
+        (gain-is (c .gains) (accepted-gains (keptOf m) m (c .gains) (c .input) (c .before) (length (c .input)) (a .0)) k)
+    by (no q) rest = subst IsGain (sym (carried-later c cs n k (omega arith))) (rest (omega (arith, length-append (c .input) (joined cs))))
+
+-- ---- the demands, for the output at n of accepted calls from prepared memory
+
+module _ (M : ℕ) (least : 2 ≤ M) (most : M ≤ 10) (cs : List Call) (all : AllAccepted (prepared M) cs) (n : ℕ) (inside : n < length (joined cs)) where
+  is : written M cs n ≡ output published M (carried cs) (signalOf (joined cs)) n
+  is = output-at M least most cs all n inside
+
+  allowed : AllowedGains M (carried cs) n
+  allowed m _ _ = carried-allowed (prepared M) cs all n inside m
+
+  -- 01, Exact output and allowance: "at most 2,048·P plus the sum over k = 1..M-1 of |gain(k+1) - gain(k)|·E(k)·100,000^(k-1)"
+  pub written-near : natAbs (pos (4096 * commonScale M) *ℤ written M cs n -ℤ exact M cs n) ≤ 2048 * commonScale M + slack published M (carried cs) n
+  written-near = rw is (distance published M (carried cs) (signalOf (joined cs)) n (omega arith))
+
+  -- demand 3: "never past 302 steps"
+  pub written-within-302 : natAbs (pos (4096 * commonScale M) *ℤ written M cs n -ℤ exact M cs n) ≤ farthest * (4096 * commonScale M)
+  written-within-302 = rw is (never-past-302 M least most (carried cs) (signalOf (joined cs)) n allowed)
+
+  -- demand 3: "Equal gains: that gain times the input, late by the stated delay, rounded once, limited."
+  pub written-equal : (G : ℤ) → ((m : ℕ) → 1 ≤ m → m ≤ M → carried cs n m ≡ G) →
+      written M cs n ≡ limit least24 most24 (nearest 4096 (G *ℤ back (signalOf (joined cs)) n (delay published M)))
+  written-equal G e = is ∙ equal-gains published M G (carried cs) (signalOf (joined cs)) n (omega arith) e
+
+  -- no crack: a loud sample never turns over
+  pub loud-above : pos (farthest * (4096 * commonScale M)) <ℤ exact M cs n → pos 0 <ℤ written M cs n
+  loud-above h = rw is (above-stays-above M least most (carried cs) (signalOf (joined cs)) n allowed h)
+
+  pub loud-below : exact M cs n <ℤ negℤ (pos (farthest * (4096 * commonScale M))) → written M cs n <ℤ pos 0
+  loud-below h = rw is (below-stays-below M least most (carried cs) (signalOf (joined cs)) n allowed h)
