@@ -1,0 +1,15 @@
+-- A proof by the two answers of a test. Assumes nothing.
+use mathlib.Core.Path.{_≡_, refl}
+use mathlib.Core.Bool.{Bool, true, false}
+use Prim.Native.Nat.{ℕ, _<_, _≤_}
+use lib.Dec.{ltb}
+use borrow.Author.Tests.{ltb-true, ltb-false}
+
+-- either answer serves
+pub by-test {ℓ} : {P : Type ℓ} (t : Bool) → (t ≡ true → P) → (t ≡ false → P) → P
+by-test true f g = f refl
+by-test false f g = g refl
+
+-- a number lies below another, or does not
+pub by-order {ℓ} : {P : Type ℓ} (a b : ℕ) → (a < b → P) → (b ≤ a → P) → P
+by-order a b below above = by-test (ltb a b) (λ t. below (ltb-true a b t)) (λ t. above (ltb-false a b t))

@@ -1,0 +1,4 @@
+pub mod Cases
+pub mod Codec
+pub mod Complement
+pub mod Little

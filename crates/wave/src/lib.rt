@@ -1,0 +1,11 @@
+// WAVE files: the header's reader and writer, and the sample codec, one sample at a time and by the block.
+// No public call has a `requires`: what it cannot take it refuses, and then it changes nothing that is lent.
+mod code;
+mod format;
+mod sample;
+
+pub use format::Format;
+pub use sample::Put;
+pub use sample::Sample;
+pub use sample::sample_from_bytes;
+pub use sample::sample_to_bytes;
