@@ -2,3 +2,4 @@ pub mod Cases
 pub mod Codec
 pub mod Complement
 pub mod Little
+pub mod Writing

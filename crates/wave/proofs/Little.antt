@@ -2,7 +2,7 @@
 use mathlib.Core.Path.{_≡_, refl, sym, ap, _∙_, subst}
 use mathlib.Core.List.{List, [], _∷_, _++_, append-nil}
 use Prim.Native.Nat.{ℕ, zero, suc, _+_, _*_, _/_, _%_, _^_, _<_, _≤_}
-use native.Mathlib.Nat.{not-suc-le-zero}
+use native.Mathlib.Nat.{add-zero, add-suc, suc-add}
 use native.Mathlib.Numerals.{add-one, add-two, add-three}
 use native.Mathlib.Omega.{arith}
 use lib.ListN.{length, getD, take, drop, set, drop-of-length-le}
@@ -36,6 +36,18 @@ length-little (suc k) n = ap suc (length-little k (n / 256))
 third-byte : (n : ℕ) → n < 16777216 → n / 256 / 256 % 256 ≡ n / 65536
 third-byte n h = omega arith
 
+pub little-2 : (n : ℕ) → n < 65536 → little 2 n ≡ n % 256 ∷ n / 256 ∷ []
+unfolding little
+little-2 n h = ap (λ (b : ℕ). n % 256 ∷ b ∷ []) (omega arith)
+
+pub little-4 : (n : ℕ) → n < 4294967296 → little 4 n ≡ n % 256 ∷ n / 256 % 256 ∷ n / 65536 % 256 ∷ n / 16777216 ∷ []
+unfolding little
+little-4 n h =
+    let third : n / 256 / 256 % 256 ≡ n / 65536 % 256 = omega arith in
+    let fourth : n / 256 / 256 / 256 % 256 ≡ n / 16777216 = omega arith in
+    ap (λ (b : ℕ). n % 256 ∷ n / 256 % 256 ∷ b ∷ n / 256 / 256 / 256 % 256 ∷ []) third
+    ∙ ap (λ (b : ℕ). n % 256 ∷ n / 256 % 256 ∷ n / 65536 % 256 ∷ b ∷ []) fourth
+
 pub little-3 : (n : ℕ) → n < 2 ^ 24 → little 3 n ≡ n % 256 ∷ n / 256 % 256 ∷ n / 65536 ∷ []
 unfolding little
 little-3 n h = ap (λ (b : ℕ). n % 256 ∷ n / 256 % 256 ∷ b ∷ []) (third-byte n h)
@@ -44,6 +56,35 @@ little-3 n h = ap (λ (b : ℕ). n % 256 ∷ n / 256 % 256 ∷ b ∷ []) (third-
 
 pub stores-3 : (l : List ℕ) (at x y z : ℕ) → set (set (set l at x) (at + 1) y) (at + 2) z ≡ sets l at (x ∷ y ∷ z ∷ [])
 stores-3 l at x y z = rw (add-one, add-two)
+
+pub stores-2 : (l : List ℕ) (at x y : ℕ) → set (set l at x) (at + 1) y ≡ sets l at (x ∷ y ∷ [])
+stores-2 l at x y = rw add-one
+
+pub stores-4 : (l : List ℕ) (at x y z w : ℕ) → set (set (set (set l at x) (at + 1) y) (at + 2) z) (at + 3) w ≡ sets l at (x ∷ y ∷ z ∷ w ∷ [])
+stores-4 l at x y z w = rw (add-one, add-two, add-three)
+
+-- a row of four, element by element
+pub row-4 : (s : List ℕ) → length s ≡ 4 → getD s 0 0 ∷ getD s 1 0 ∷ getD s 2 0 ∷ getD s 3 0 ∷ [] ≡ s
+row-4 [] h = absurd (omega arith)
+row-4 (a ∷ []) h = absurd (omega arith)
+row-4 (a ∷ b ∷ []) h = absurd (omega arith)
+row-4 (a ∷ b ∷ x ∷ []) h = absurd (omega arith)
+row-4 (a ∷ b ∷ x ∷ y ∷ []) h = refl
+row-4 (a ∷ b ∷ x ∷ y ∷ z ∷ s) h = absurd (omega arith)
+
+-- a row stored behind a row is the joined row
+sets-append : (l xs ys : List ℕ) (at : ℕ) → sets (sets l at xs) (at + length xs) ys ≡ sets l at (xs ++ ys)
+sets-append l [] ys at = ap (λ (k : ℕ). sets l k ys) (add-zero at)
+sets-append l (x ∷ xs) ys at =
+    ap (λ (k : ℕ). sets (sets (set l at x) (suc at) xs) k ys) (add-suc at (length xs) ∙ sym (suc-add at (length xs)))
+    ∙ sets-append (set l at x) xs ys (suc at)
+
+pub behind :
+    (l m n xs ys : List ℕ) (at k : ℕ) → length xs ≡ k
+    → m ≡ sets l at xs → n ≡ sets m (at + k) ys → n ≡ sets l at (xs ++ ys)
+behind l m n xs ys at k long first second =
+    second ∙ ap (λ (r : List ℕ). sets r (at + k) ys) first
+    ∙ ap (λ (j : ℕ). sets (sets l at xs) (at + j) ys) (sym long) ∙ sets-append l xs ys at
 
 -- a row as long as the buffer takes its place
 pub sets-whole : (l vs : List ℕ) → length vs ≡ length l → sets l 0 vs ≡ vs

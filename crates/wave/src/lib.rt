@@ -2,10 +2,14 @@
 // No public call has a `requires`: what it cannot take it refuses, and then it changes nothing that is lent.
 mod code;
 mod format;
+mod put;
 mod sample;
+mod writer;
 
 pub use format::Format;
 pub use sample::Put;
 pub use sample::Sample;
 pub use sample::sample_from_bytes;
 pub use sample::sample_to_bytes;
+pub use writer::Written;
+pub use writer::write;
