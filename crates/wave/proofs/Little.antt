@@ -1,13 +1,15 @@
 -- Laws of little-endian numbers and of bytes stored in a row. Assumes nothing.
 use mathlib.Core.Path.{_≡_, refl, sym, ap, _∙_, subst}
+use mathlib.Core.Bool.{Bool, true, false, _&&_, and-true}
 use mathlib.Core.List.{List, [], _∷_, _++_, append-nil}
 use Prim.Native.Nat.{ℕ, zero, suc, _+_, _*_, _/_, _%_, _^_, _<_, _≤_}
 use native.Mathlib.Nat.{add-zero, add-suc, suc-add}
 use native.Mathlib.Numerals.{add-one, add-two, add-three}
 use native.Mathlib.Omega.{arith}
-use lib.ListN.{length, getD, take, drop, set, drop-of-length-le}
-use lib.Seq.{sets, sets-eq}
-use Rattle.wave.specs.Bytes.{number, little, field}
+use lib.ListN.{length, getD, take, drop, set, length-drop, drop-of-length-le}
+use lib.Dec.{eqb}
+use lib.Seq.{sets, sets-eq, getD-drop}
+use Rattle.wave.specs.Bytes.{number, little, field, same}
 
 -- ── bytes to a number ──────────────────────────────────────────────────────────────────────────
 
@@ -25,6 +27,60 @@ number-3 (a ∷ []) h = omega arith
 number-3 (a ∷ b ∷ []) h = omega arith
 number-3 (a ∷ b ∷ x ∷ []) h = omega arith
 number-3 (a ∷ b ∷ x ∷ y ∷ s) h = absurd (omega arith)
+
+number-take-2 : (t : List ℕ) → number (take 2 t) ≡ getD t 0 0 + 256 * getD t 1 0
+unfolding number
+number-take-2 [] = refl
+number-take-2 (a ∷ []) = omega arith
+number-take-2 (a ∷ b ∷ t) = omega arith
+
+number-take-4 : (t : List ℕ) → number (take 4 t) ≡ getD t 0 0 + 256 * getD t 1 0 + 65536 * getD t 2 0 + 16777216 * getD t 3 0
+unfolding number
+number-take-4 [] = refl
+number-take-4 (a ∷ []) = omega arith
+number-take-4 (a ∷ b ∷ []) = omega arith
+number-take-4 (a ∷ b ∷ x ∷ []) = omega arith
+number-take-4 (a ∷ b ∷ x ∷ y ∷ t) = omega arith
+
+first-of-drop : (s : List ℕ) (place : ℕ) → getD (drop place s) 0 0 ≡ getD s place 0
+first-of-drop s place = getD-drop place s 0 0 ∙ ap (λ (k : ℕ). getD s k 0) (add-zero place)
+
+pub field-2 : (s : List ℕ) (place : ℕ) → field s place 2 ≡ getD s place 0 + 256 * getD s (place + 1) 0
+unfolding field
+field-2 s place =
+    number-take-2 (drop place s) ∙ omega (arith, first-of-drop s place, getD-drop place s 1 0)
+
+pub field-4 : (s : List ℕ) (place : ℕ) → field s place 4 ≡ getD s place 0 + 256 * getD s (place + 1) 0 + 65536 * getD s (place + 2) 0 + 16777216 * getD s (place + 3) 0
+unfolding field
+field-4 s place =
+    number-take-4 (drop place s)
+    ∙ omega (arith, first-of-drop s place, getD-drop place s 1 0, getD-drop place s 2 0, getD-drop place s 3 0)
+
+-- ── names ──────────────────────────────────────────────────────────────────────────────────────
+
+same-4 :
+    (t name : List ℕ) → 4 ≤ length t → length name ≡ 4
+    → same (take 4 t) name ≡ (eqb (getD t 0 0) (getD name 0 0) && (eqb (getD t 1 0) (getD name 1 0) && (eqb (getD t 2 0) (getD name 2 0) && eqb (getD t 3 0) (getD name 3 0))))
+unfolding same
+same-4 (a ∷ b ∷ x ∷ y ∷ t) (k ∷ l ∷ m ∷ n ∷ []) h e = ap (λ (q : Bool). eqb a k && (eqb b l && (eqb x m && q))) (and-true (eqb y n))
+same-4 [] name h e = absurd (omega arith)
+same-4 (a ∷ []) name h e = absurd (omega arith)
+same-4 (a ∷ b ∷ []) name h e = absurd (omega arith)
+same-4 (a ∷ b ∷ x ∷ []) name h e = absurd (omega arith)
+same-4 (a ∷ b ∷ x ∷ y ∷ t) [] h e = absurd (omega arith)
+same-4 (a ∷ b ∷ x ∷ y ∷ t) (k ∷ []) h e = absurd (omega arith)
+same-4 (a ∷ b ∷ x ∷ y ∷ t) (k ∷ l ∷ []) h e = absurd (omega arith)
+same-4 (a ∷ b ∷ x ∷ y ∷ t) (k ∷ l ∷ m ∷ []) h e = absurd (omega arith)
+same-4 (a ∷ b ∷ x ∷ y ∷ t) (k ∷ l ∷ m ∷ n ∷ o ∷ u) h e = absurd (omega arith)
+
+-- whether four bytes at a place read a name is four tests
+pub same-at :
+    (s name : List ℕ) (place : ℕ) → place + 4 ≤ length s → length name ≡ 4
+    → same (take 4 (drop place s)) name
+      ≡ (eqb (getD s place 0) (getD name 0 0) && (eqb (getD s (place + 1) 0) (getD name 1 0) && (eqb (getD s (place + 2) 0) (getD name 2 0) && eqb (getD s (place + 3) 0) (getD name 3 0))))
+same-at s name place h e =
+    same-4 (drop place s) name (simp length-drop (omega arith)) e
+    ∙ rw (first-of-drop s place, getD-drop place s 1 0, getD-drop place s 2 0, getD-drop place s 3 0)
 
 -- ── a number to bytes ──────────────────────────────────────────────────────────────────────────
 

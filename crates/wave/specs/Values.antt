@@ -18,8 +18,12 @@ blockSize bits = bits / 8
 unfoldable pub knownRate : ℕ → Bool
 knownRate rate = eqb rate 44100 || eqb rate 48000
 
+-- "bits 16 or 24"
+unfoldable pub knownBits : ℕ → Bool
+knownBits bits = eqb bits 16 || eqb bits 24
+
 -- "Right values: tag 1, one channel, rate 44,100 or 48,000, bits 16 or 24, block size bits/8, byte rate = rate times block size."
 unfoldable pub right : (tag channels rate byteRate block bits : ℕ) → Bool
 right tag channels rate byteRate block bits =
-    eqb tag 1 && (eqb channels 1 && (knownRate rate && ((eqb bits 16 || eqb bits 24)
+    eqb tag 1 && (eqb channels 1 && (knownRate rate && (knownBits bits
     && (eqb block (blockSize bits) && eqb byteRate (rate * block)))))

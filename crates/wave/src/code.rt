@@ -1,4 +1,5 @@
 // A sample's code: the 24 bits of its two's complement, as a number below 2 ^ 24.
+use crate::get::wide;
 ghost use mathlib.Core.Path.{_≡_};
 ghost use Prim.Native.Nat.{_<_, _≤_, _+_, _*_, _^_};
 ghost use mathlib.Core.Bool.{true};
@@ -6,12 +7,6 @@ ghost use lib.ListN.{length};
 ghost use lib.Seq.{sets};
 ghost use Rattle.wave.specs.Bytes.{little};
 ghost use Rattle.wave.specs.Sample.{numberOf, codeOf, inRange};
-
-fn wide(x: u8) -> u32
-    ensures { λ r. ⌜ (r ≡ x) × (r < 256) ⌝ }
-{
-    x as u32
-}
 
 // The code of three bytes, the lowest first.
 pub(crate) fn code(low: u8, middle: u8, high: u8) -> u32

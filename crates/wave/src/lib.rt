@@ -1,12 +1,17 @@
 // WAVE files: the header's reader and writer, and the sample codec, one sample at a time and by the block.
 // No public call has a `requires`: what it cannot take it refuses, and then it changes nothing that is lent.
+mod chunk;
 mod code;
 mod format;
+mod get;
 mod put;
+mod reader;
 mod sample;
 mod writer;
 
 pub use format::Format;
+pub use reader::Reading;
+pub use reader::read;
 pub use sample::Put;
 pub use sample::Sample;
 pub use sample::sample_from_bytes;

@@ -1,0 +1,15 @@
+-- The code's own enums of the walk, in the definitions' words.
+use Rattle.wave.specs.Values.{bitsOf}
+use Rattle.wave.specs.Walk.{Seen, nothing, sound, Step, ends, on, readAnswer}
+use Rattle.wave.specs.declared.chunk.Heard.{Heard}
+use Rattle.wave.specs.declared.chunk.Heard.the-variants.{Nothing, Sound}
+use Rattle.wave.specs.declared.chunk.Turn.{Turn}
+use Rattle.wave.specs.declared.chunk.Turn.the-variants.{Ends, On}
+
+abbrev pub seenOf : Heard → Seen
+seenOf Nothing = nothing
+seenOf (Sound rate format) = sound rate (bitsOf format)
+
+abbrev pub stepOf : Turn → Step
+stepOf (Ends reading) = ends (readAnswer reading)
+stepOf (On at heard) = on at (seenOf heard)
