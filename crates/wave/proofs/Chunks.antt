@@ -1,7 +1,7 @@
 -- One chunk of the walk, case by case: what each way through the code gives is what the definitions say.
 -- Assumes nothing.
 use mathlib.Core.Path.{_≡_, refl, sym, ap, _∙_, subst}
-use mathlib.Core.Bool.{Bool, true, false, cond, _&&_, _||_, false≢true}
+use mathlib.Core.Bool.{Bool, true, false, cond, _&&_, _||_}
 use mathlib.Core.List.{List}
 use Prim.Native.Nat.{ℕ, _+_, _*_, _/_, _%_, _<_, _≤_}
 use native.Mathlib.Omega.{arith}
@@ -14,7 +14,7 @@ use Rattle.wave.specs.Bytes.{field, same}
 use Rattle.wave.specs.Names.{fmt, data′}
 use Rattle.wave.specs.Values.{blockSize, knownRate, knownBits, right}
 use Rattle.wave.specs.Walk.{Found, Seen, nothing, sound, Step, ends, on, next, first, values, fmtChunk, dataChunk, chunk}
-use Rattle.wave.proofs.Cases.{by-test}
+use Rattle.wave.proofs.Cases.{by-test, and-left, and-right}
 use Rattle.wave.proofs.Writing.{rate-small}
 
 -- neither number of bits is above 24
@@ -60,14 +60,6 @@ module _ (tag channels rate byteRate block bits : ℕ) where
         let three : block ≤ 3 = omega arith in
         let l : rate * block ≤ 48000 * 3 = mul-le-mul (rate-small rate k) three in
         omega arith
-
-and-left : (a b : Bool) → (a && b) ≡ true → a ≡ true
-and-left true b h = refl
-and-left false b h = h
-
-and-right : (a b : Bool) → (a && b) ≡ true → b ≡ true
-and-right true b h = h
-and-right false b h = absurd (false≢true h)
 
 -- right values that are not of 16 bits are of 24
 pub right-means-24 :

@@ -1,3 +1,4 @@
+pub mod Blocks
 pub mod Cases
 pub mod Chunks
 pub mod Codec

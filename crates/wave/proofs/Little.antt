@@ -34,6 +34,13 @@ number-take-2 [] = refl
 number-take-2 (a ∷ []) = omega arith
 number-take-2 (a ∷ b ∷ t) = omega arith
 
+number-take-3 : (t : List ℕ) → number (take 3 t) ≡ getD t 0 0 + 256 * getD t 1 0 + 65536 * getD t 2 0
+unfolding number
+number-take-3 [] = refl
+number-take-3 (a ∷ []) = omega arith
+number-take-3 (a ∷ b ∷ []) = omega arith
+number-take-3 (a ∷ b ∷ x ∷ t) = omega arith
+
 number-take-4 : (t : List ℕ) → number (take 4 t) ≡ getD t 0 0 + 256 * getD t 1 0 + 65536 * getD t 2 0 + 16777216 * getD t 3 0
 unfolding number
 number-take-4 [] = refl
@@ -49,6 +56,11 @@ pub field-2 : (s : List ℕ) (place : ℕ) → field s place 2 ≡ getD s place 
 unfolding field
 field-2 s place =
     number-take-2 (drop place s) ∙ omega (arith, first-of-drop s place, getD-drop place s 1 0)
+
+pub field-3 : (s : List ℕ) (place : ℕ) → field s place 3 ≡ getD s place 0 + 256 * getD s (place + 1) 0 + 65536 * getD s (place + 2) 0
+unfolding field
+field-3 s place =
+    number-take-3 (drop place s) ∙ omega (arith, first-of-drop s place, getD-drop place s 1 0, getD-drop place s 2 0)
 
 pub field-4 : (s : List ℕ) (place : ℕ) → field s place 4 ≡ getD s place 0 + 256 * getD s (place + 1) 0 + 65536 * getD s (place + 2) 0 + 16777216 * getD s (place + 3) 0
 unfolding field

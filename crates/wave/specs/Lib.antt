@@ -1,4 +1,5 @@
 pub mod Answer
+pub mod Block
 pub mod Bytes
 pub mod Code
 pub mod Header

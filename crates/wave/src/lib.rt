@@ -1,5 +1,6 @@
 // WAVE files: the header's reader and writer, and the sample codec, one sample at a time and by the block.
 // No public call has a `requires`: what it cannot take it refuses, and then it changes nothing that is lent.
+mod block;
 mod chunk;
 mod code;
 mod format;
@@ -9,6 +10,10 @@ mod reader;
 mod sample;
 mod writer;
 
+pub use block::Stored;
+pub use block::Taken;
+pub use block::bytes_to_samples;
+pub use block::samples_to_bytes;
 pub use format::Format;
 pub use reader::Reading;
 pub use reader::read;
