@@ -4,5 +4,9 @@ pub mod Chunks
 pub mod Codec
 pub mod Complement
 pub mod Little
+pub mod OneAnswer
+pub mod RoundTrips
+pub mod Singles
+pub mod Unread
 pub mod Walks
 pub mod Writing
