@@ -1,3 +1,4 @@
+pub mod AfterData
 pub mod Blocks
 pub mod Cases
 pub mod Chunks

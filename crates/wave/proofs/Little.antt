@@ -70,7 +70,7 @@ field-4 s place =
 
 -- ── names ──────────────────────────────────────────────────────────────────────────────────────
 
-same-4 :
+pub same-4 :
     (t name : List ℕ) → 4 ≤ length t → length name ≡ 4
     → same (take 4 t) name ≡ (eqb (getD t 0 0) (getD name 0 0) && (eqb (getD t 1 0) (getD name 1 0) && (eqb (getD t 2 0) (getD name 2 0) && eqb (getD t 3 0) (getD name 3 0))))
 unfolding same
