@@ -63,12 +63,13 @@ module _ (tag channels rate byteRate block bits : ℕ) where
 
 -- right values that are not of 16 bits are of 24
 pub right-means-24 :
-    (tag channels rate byteRate block bits : ℕ) → right tag channels rate byteRate block bits ≡ true → (bits ≡ 16 → ⊥) → bits ≡ 24
+    (tag channels rate byteRate block bits : ℕ) (judged : Bool) → judged ≡ right tag channels rate byteRate block bits
+    → judged ≡ true → (bits ≡ 16 → ⊥) → bits ≡ 24
 unfolding right
-right-means-24 tag channels rate byteRate block bits h other =
+right-means-24 tag channels rate byteRate block bits judged is held other =
     bits-known bits
     (and-left (knownBits bits) (eqb block (blockSize bits) && eqb byteRate (rate * block))
-    (and-right (knownRate rate) _ (and-right (eqb channels 1) _ (and-right (eqb tag 1) _ h))))
+    (and-right (knownRate rate) _ (and-right (eqb channels 1) _ (and-right (eqb tag 1) _ (sym is ∙ held)))))
     other
 
 -- ── `fmt ` ─────────────────────────────────────────────────────────────────────────────────────
@@ -99,17 +100,19 @@ pub record Fields (rest : List ℕ) (tag channels rate byteRate block bits : ℕ
   pub block-is : block ≡ field rest 20 2
   pub bits-is : bits ≡ field rest 22 2
 
-module _ (rest : List ℕ) (at tag channels rate byteRate block bits : ℕ) (f : Fields rest tag channels rate byteRate block bits) where
+module _
+    (rest : List ℕ) (at tag channels rate byteRate block bits : ℕ) (f : Fields rest tag channels rate byteRate block bits)
+    (judged : Bool) (is : judged ≡ right tag channels rate byteRate block bits) where
   of-fields :
-      right tag channels rate byteRate block bits
+      judged
       ≡ right (field rest 8 2) (field rest 10 2) (field rest 12 4) (field rest 16 4) (field rest 20 2) (field rest 22 2)
-  of-fields = rw (← f .tag-is, ← f .channels-is, ← f .rate-is, ← f .byteRate-is, ← f .block-is, ← f .bits-is)
+  of-fields = is ∙ rw (← f .tag-is, ← f .channels-is, ← f .rate-is, ← f .byteRate-is, ← f .block-is, ← f .bits-is)
 
-  pub values-wrong : right tag channels rate byteRate block bits ≡ false → ends (refused 23) ≡ values rest at
+  pub values-wrong : judged ≡ false → ends (refused 23) ≡ values rest at
   unfolding values
   values-wrong h = rw (sym of-fields ∙ h)
 
-  pub values-right : (place known : ℕ) → right tag channels rate byteRate block bits ≡ true → place ≡ next at 16 → known ≡ bits → on place (sound rate known) ≡ values rest at
+  pub values-right : (place known : ℕ) → judged ≡ true → place ≡ next at 16 → known ≡ bits → on place (sound rate known) ≡ values rest at
   unfolding values
   values-right place known h n k =
       rw (sym of-fields ∙ h)

@@ -138,7 +138,7 @@ module _ (rate size : ℕ) (t : List ℕ) where
             } in
       sym (chunk-fmt r 12 nothing (on 36 (sound rate 24)) (omega arith) refl
         (fmt-first r 12 (on 36 (sound rate 24)) refl (omega arith)
-          (values-right r 12 1 1 rate (rate * 3) 3 24 fields 36 24 (right-24 rate known) refl refl)))
+          (values-right r 12 1 1 rate (rate * 3) 3 24 fields true (sym (right-24 rate known)) 36 24 refl refl refl)))
 
   data-is : size % 3 ≡ 0 → size < 4294967296 → chunk (drop 36 (header rate size ++ t)) 36 (sound rate 24) ≡ ends (accepted (written rate size))
   unfolding header chunkHeader fmtContents little field number same

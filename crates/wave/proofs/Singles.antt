@@ -18,7 +18,7 @@ use Rattle.wave.specs.declared.format.Format.the-variants.{Bits16, Bits2
 use Rattle.wave.proofs.Cases.{and-left, and-right}
 use Rattle.wave.proofs.Complement.{number-code, code-below}
 use Rattle.wave.proofs.Codec.{from-two, from-three, to-three}
-use Rattle.wave.proofs.Blocks.{samples-at}
+use Rattle.wave.proofs.Blocks.{samples-at, all-at}
 use Rattle.wave.proofs.RoundTrips.{number-little-3}
 
 -- the bytes of one sample make the sample of their format
@@ -38,6 +38,25 @@ from-singles n format s i h room =
     left : (f : Format) (m j k : ℕ) → j < m → sizeOf f * m ≤ k → {l : ℕ} → l ≡ k - sizeOf f * j → sizeOf f ≤ l
     left Bits16 m j k a b e = omega arith
     left Bits24 m j k a b e = omega arith
+
+-- the bytes at a sample's place are the sample's
+bytes-at : (samples : List ℤ) (i : ℕ) → i < length samples → take 3 (drop (3 * i) (bytesOf samples)) ≡ little 3 (codeOf (getD samples i (pos 0)))
+unfolding bytesOf little
+bytes-at [] i h = absurd (not-suc-le-zero h)
+bytes-at (z ∷ samples) zero h = refl
+bytes-at (z ∷ samples) (suc i) h =
+    ap (λ (k : ℕ). take 3 (drop k (little 3 (codeOf z) ++ bytesOf samples))) (three-more i)
+    ∙ bytes-at samples i (le-of-suc-le-suc h)
+  where
+    three-more : (j : ℕ) → 3 * suc j ≡ suc (suc (suc (3 * j)))
+    three-more j = omega arith
+
+-- the bytes of sample i of a block are the single call's
+pub to-singles :
+    (samples : List ℤ) (buffer : List ℕ) (i : ℕ) → allInRange samples ≡ true → i < length samples → length buffer ≡ 3
+    → toBytes (getD samples i (pos 0)) buffer ≡ (accepted 3, take 3 (drop (3 * i) (bytesOf samples)))
+to-singles samples buffer i range h three =
+    sym (to-three (getD samples i (pos 0)) buffer (take 3 (drop (3 * i) (bytesOf samples))) three (all-at samples i range h) (bytes-at samples i h))
 
 -- a block of samples written and taken again is itself
 pub block-there-and-back : (samples : List ℤ) → allInRange samples ≡ true → samplesOf (length samples) Bits24 (bytesOf samples) ≡ samples

@@ -44,7 +44,8 @@ pub(crate) fn right(tag: u32, channels: u32, rate: u32, byterate: u32, block: u3
             if block != bits / 8 {
                 return false;
             }
-            return byterate == rate * block;
+            let product = rate * block;
+            return byterate == product;
         }
     }
     false

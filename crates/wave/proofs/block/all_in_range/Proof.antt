@@ -41,9 +41,9 @@ loop-again c =
     let at-loop = called .before .before .before in
     let s = at-loop .before .args .samples .now in
     let i = at-loop .loop .i in
-    let plain = toZ-ofZ (record { sfits = called .before .in-range-arg .given }) in
     (omega arith,
-      rest-yes s i (called .before .before .loop-test .taken) (ap inRange (sym plain) ∙ sym (called .in-range .ensures) ∙ c .if1 .taken)
+      rest-yes s i (called .before .before .loop-test .taken)
+        (ap inRange (sym (toZ-ofZ (record { sfits = called .before .in-range-arg .given }))) ∙ sym (called .in-range .ensures) ∙ c .if1 .taken)
       ∙ at-loop .loop .inv .1)
 
 returns : tie.Need-returns Inv-loop μ-loop
@@ -52,8 +52,8 @@ returns c =
     let at-loop = called .before .before .before in
     let s = at-loop .before .args .samples .now in
     let i = at-loop .loop .i in
-    let plain = toZ-ofZ (record { sfits = called .before .in-range-arg .given }) in
-    rest-no s i (called .before .before .loop-test .taken) (ap inRange (sym plain) ∙ sym (called .in-range .ensures) ∙ c .if1 .left)
+    rest-no s i (called .before .before .loop-test .taken)
+      (ap inRange (sym (toZ-ofZ (record { sfits = called .before .in-range-arg .given }))) ∙ sym (called .in-range .ensures) ∙ c .if1 .left)
     ∙ at-loop .loop .inv .1
 
 returns-2 : tie.Need-returns-2 Inv-loop μ-loop

@@ -1,6 +1,6 @@
 -- `chunk::format_values` meets its contract: the values are read, judged, and kept.
 -- Assumes nothing.
-use mathlib.Core.Path.{sym, refl, _∙_}
+use mathlib.Core.Path.{sym}
 use Rattle.wave.proofs.Chunks.{Fields, values-wrong, values-right, right-means-24}
 use borrow.Author.Needs.{needs}
 use Rattle.wave.proofs.chunk.format_values.Statement.{statement}
@@ -49,8 +49,8 @@ returns c =
     let r = then1 .before in
     let p = r .before in
     let a = p .before .before .before .before .before .before .before .args in
-    values-right (a .rest .now) (a .at) _ _ _ _ _ _ (fields p) (c .next-chunk .result) 16
-    (sym (r .right .ensures) ∙ then1 .if1 .taken) (c .next-chunk .ensures) (sym (c .before .if2 .taken))
+    values-right (a .rest .now) (a .at) _ _ _ _ _ _ (fields p) (r .right .result) (r .right .ensures) (c .next-chunk .result) 16
+    (then1 .if1 .taken) (c .next-chunk .ensures) (sym (c .before .if2 .taken))
 
 next-chunk-requires-2 : tie.Need-next-chunk-requires-2
 next-chunk-requires-2 c κs = search needs
@@ -61,16 +61,15 @@ returns-2 c =
     let r = then1 .before in
     let p = r .before in
     let a = p .before .before .before .before .before .before .before .args in
-    let yes = sym (r .right .ensures) ∙ then1 .if1 .taken in
-    values-right (a .rest .now) (a .at) _ _ _ _ _ _ (fields p) (c .next-chunk2 .result) 24
-    yes (c .next-chunk2 .ensures) (sym (right-means-24 _ _ _ _ _ _ yes (c .before .if2 .left)))
+    values-right (a .rest .now) (a .at) _ _ _ _ _ _ (fields p) (r .right .result) (r .right .ensures) (c .next-chunk2 .result) 24
+    (then1 .if1 .taken) (c .next-chunk2 .ensures) (sym (right-means-24 _ _ _ _ _ _ (r .right .result) (r .right .ensures) (then1 .if1 .taken) (c .before .if2 .left)))
 
 returns-3 : tie.Need-returns-3
 returns-3 c =
     let r = c .before in
     let p = r .before in
     let a = p .before .before .before .before .before .before .before .args in
-    values-wrong (a .rest .now) (a .at) _ _ _ _ _ _ (fields p) (sym (r .right .ensures) ∙ c .if1 .left)
+    values-wrong (a .rest .now) (a .at) _ _ _ _ _ _ (fields p) (r .right .result) (r .right .ensures) (c .if1 .left)
 
 pub format-values-spec : {M : Type 1} → statement M
 format-values-spec =

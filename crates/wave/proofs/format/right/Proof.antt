@@ -28,8 +28,8 @@ returns-3 c =
     right-block (a .tag) (a .channels) (a .rate) (a .byterate) (a .block) (a .bits) (else1 .if1 .left) (else2 .if2 .left)
     (sym (then3 .before .known-rate .ensures) ∙ then3 .if3 .taken) (sym (known-bits .known-bits .ensures) ∙ c .before .if4 .taken) (c .if5 .taken)
 
-mul-result : tie.Need-mul-result
-mul-result c =
+mul-product : tie.Need-mul-product
+mul-product c =
     let known-bits = c .before .before in
     let then3 = known-bits .before in
     let else2 = then3 .before .before in
@@ -73,7 +73,7 @@ right-spec =
     known-rate-requires
     known-bits-requires
     returns-3
-    mul-result
+    mul-product
     returns-4
     returns-5
     returns-6)
