@@ -36,7 +36,7 @@ alike-drop m at r q a l =
     record {
       bytes = λ i h. getD-drop at r i 0 ∙ a .bytes (at + i) (omega arith) ∙ sym (getD-drop at q i 0);
       long = omega arith;
-      long′ = omega arith
+      long′ = omega arith;
     }
 
 module _ (m : ℕ) (r q : List ℕ) (a : Alike m r q) where
@@ -64,7 +64,7 @@ module _ (m : ℕ) (r q : List ℕ) (a : Alike m r q) where
       let long′ = a .long′ in
       same-4 r name (omega arith) four
       ∙ rw (a .bytes 0 (omega arith), a .bytes 1 (omega arith), a .bytes 2 (omega arith), a .bytes 3 (omega arith))
-        (sym (same-4 q name (omega arith) four))
+      (sym (same-4 q name (omega arith) four))
 
   -- ── chunks that agree ──────────────────────────────────────────────────────────────────────
 
@@ -73,10 +73,17 @@ module _ (m : ℕ) (r q : List ℕ) (a : Alike m r q) where
   fmt-alike at seen l =
       let long = a .long in
       let long′ = a .long′ in
-      rw
-      (field-4-alike 4 (omega arith), field-2-alike 8 (omega arith), field-2-alike 10 (omega arith), field-4-alike 12 (omega arith),
-        field-4-alike 16 (omega arith), field-2-alike 20 (omega arith), field-2-alike 22 (omega arith),
-        le-leb 24 (length r) (omega arith), le-leb 24 (length q) (omega arith))
+      rw (
+        field-4-alike 4 (omega arith),
+        field-2-alike 8 (omega arith),
+        field-2-alike 10 (omega arith),
+        field-4-alike 12 (omega arith),
+        field-4-alike 16 (omega arith),
+        field-2-alike 20 (omega arith),
+        field-2-alike 22 (omega arith),
+        le-leb 24 (length r) (omega arith),
+        le-leb 24 (length q) (omega arith),
+      )
 
   -- past eight bytes a chunk is known, but for the contents of a `fmt `
   chunk-alike : (at : ℕ) (seen : Seen) → 8 ≤ m → (same (take 4 r) fmt ≡ true → 24 ≤ m) → chunk r at seen ≡ chunk q at seen
@@ -86,8 +93,14 @@ module _ (m : ℕ) (r q : List ℕ) (a : Alike m r q) where
       let long′ = a .long′ in
       by-test (same (take 4 r) fmt)
       (λ t. rw (le-leb 8 (length r) (omega arith), le-leb 8 (length q) (omega arith), sym (name-alike fmt refl (omega arith)) ∙ t, t) (fmt-alike at seen (more t)))
-      (λ t. rw (le-leb 8 (length r) (omega arith), le-leb 8 (length q) (omega arith), sym (name-alike fmt refl (omega arith)) ∙ t, t,
-        name-alike data′ refl (omega arith), field-4-alike 4 (omega arith)))
+      (λ t. rw (
+        le-leb 8 (length r) (omega arith),
+        le-leb 8 (length q) (omega arith),
+        sym (name-alike fmt refl (omega arith)) ∙ t,
+        t,
+        name-alike data′ refl (omega arith),
+        field-4-alike 4 (omega arith),
+      ))
 
 -- ── the walk to a `data` header ────────────────────────────────────────────────────────────────
 
@@ -95,8 +108,8 @@ module _ (m : ℕ) (r q : List ℕ) (a : Alike m r q) where
 pub data Comes (front : List ℕ) : ℕ → Seen → ℕ → Seen → Type 0 where
   here : {at : ℕ} {seen : Seen} → Comes front at seen at seen
   there :
-    {at place d : ℕ} {seen met last : Seen} → chunk (drop at front) at seen ≡ on place met
-    → Comes front place met d last → Comes front at seen d last
+      {at place d : ℕ} {seen met last : Seen} → chunk (drop at front) at seen ≡ on place met
+      → Comes front place met d last → Comes front at seen d last
 
 -- a `data` header stands wholly at a place
 pub record AtData (front : List ℕ) (d : ℕ) : Type 0 where
@@ -158,7 +171,7 @@ module _ (a b : List ℕ) (d : ℕ) (alike : Alike (d + 8) a b) (data-there : At
       let other = not-fmt (take 4 r) (data-there .named) in
       let e₁ : chunk r d seen ≡ ends answer = sym (chunk-data r d seen l other answer (field r 4 4) (data-there .named) refl refl) in
       let e₂ : chunk (drop d b) d seen ≡ ends answer =
-            sym (chunk-alike (d + 8 - d) r (drop d b) al d seen (omega arith) (λ t. absurd (false≢true (sym other ∙ t)))) ∙ e₁ in
+      sym (chunk-alike (d + 8 - d) r (drop d b) al d seen (omega arith) (λ t. absurd (false≢true (sym other ∙ t)))) ∙ e₁ in
       walk-ends a d seen answer e₁ ∙ sym (walk-ends b d seen answer e₂)
   walks-alike at seen last (there {place = place} {met = met} e c) =
       let far = went-on a at seen place met e in
@@ -167,8 +180,8 @@ module _ (a b : List ℕ) (d : ℕ) (alike : Alike (d + 8) a b) (data-there : At
       let al = alike-drop (d + 8) at a b alike (omega arith) in
       let r = drop at a in
       let e₂ : chunk (drop at b) at seen ≡ on place met =
-            sym (chunk-alike (d + 8 - at) r (drop at b) al at seen (omega arith)
-              (λ t. omega (arith, fmt-place r at place seen met (far .0) t e))) ∙ e in
+      sym (chunk-alike (d + 8 - at) r (drop at b) al at seen (omega arith)
+      (λ t. omega (arith, fmt-place r at place seen met (far .0) t e))) ∙ e in
       walk-on a at seen place met e ∙ walks-alike place met last c ∙ sym (walk-on b at seen place met e₂)
 
   judge-alike : (last : Seen) → Comes a 12 nothing d last → judge a ≡ judge b
@@ -178,9 +191,13 @@ module _ (a b : List ℕ) (d : ℕ) (alike : Alike (d + 8) a b) (data-there : At
       let long = alike .long in
       let long′ = alike .long′ in
       let al = alike-drop (d + 8) 8 a b alike (omega arith) in
-      rw
-      (walks-alike 12 nothing last c, name-alike (d + 8) a b alike riff refl (omega arith),
-        name-alike (d + 8 - 8) (drop 8 a) (drop 8 b) al wave refl (omega arith), le-leb 12 (length a) (omega arith), le-leb 12 (length b) (omega arith))
+      rw (
+        walks-alike 12 nothing last c,
+        name-alike (d + 8) a b alike riff refl (omega arith),
+        name-alike (d + 8 - 8) (drop 8 a) (drop 8 b) al wave refl (omega arith),
+        le-leb 12 (length a) (omega arith),
+        le-leb 12 (length b) (omega arith),
+      )
 
 -- once the walk comes to a `data` header, two files that agree up to the header's end get the same answer
 pub data-decides :
@@ -191,6 +208,7 @@ data-decides s t d last c here′ e = judge-alike (take 4096 s) (take 4096 t) d 
   where
     in-front : d + 8 ≤ 4096
     in-front = let w = here′ .whole in let l = length-take 4096 s in omega arith
+
     long-t : d + 8 ≤ length t
     long-t =
         let w = here′ .whole in
@@ -199,6 +217,7 @@ data-decides s t d last c here′ e = judge-alike (take 4096 s) (take 4096 t) d 
         let kt = length-take (d + 8) t in
         let p = ap length e in
         omega arith
+
     alike : Alike (d + 8) (take 4096 s) (take 4096 t)
     alike =
         record {
@@ -206,7 +225,7 @@ data-decides s t d last c here′ e = judge-alike (take 4096 s) (take 4096 t) d 
               getD-take 4096 s i 0 (omega (arith, in-front)) ∙ sym (getD-take (d + 8) s i 0 h) ∙ ap (λ (l : List ℕ). getD l i 0) e
               ∙ getD-take (d + 8) t i 0 h ∙ sym (getD-take 4096 t i 0 (omega (arith, in-front)));
           long = here′ .whole;
-          long′ = let l = length-take 4096 t in omega (arith, in-front, long-t)
+          long′ = let l = length-take 4096 t in omega (arith, in-front, long-t);
         }
 
 -- ── an accepted file ───────────────────────────────────────────────────────────────────────────
@@ -219,8 +238,8 @@ data Lands (rest : List ℕ) (at : ℕ) (seen : Seen) : Step → Type 0 where
   onward : {place : ℕ} {met : Seen} → Lands rest at seen (on place met)
   refuses : {n : ℕ} → Lands rest at seen (ends (refused n))
   lands :
-    {answer : Answer Found} → 8 ≤ length rest → same (take 4 rest) data′ ≡ true → answer ≡ dataChunk (field rest 4 4) at seen
-    → Lands rest at seen (ends answer)
+      {answer : Answer Found} → 8 ≤ length rest → same (take 4 rest) data′ ≡ true → answer ≡ dataChunk (field rest 4 4) at seen
+      → Lands rest at seen (ends answer)
 
 first-lands : (rest : List ℕ) (at : ℕ) (seen met : Seen) → Lands rest at seen (first met (values rest at))
 unfolding first values
@@ -234,10 +253,10 @@ unfolding chunk fmtChunk
 chunk-lands rest at seen =
     cond-case (Lands rest at seen) _ _ (leb 8 (length rest))
     (λ l. cond-case (Lands rest at seen) _ _ (same (take 4 rest) fmt)
-      (λ _. cond-case (Lands rest at seen) _ _ (eqb (field rest 4 4) 16)
-        (λ _. cond-case (Lands rest at seen) _ _ (leb 24 (length rest)) (λ _. first-lands rest at seen seen) (λ _. refuses)) (λ _. refuses))
-      (λ _. cond-case (Lands rest at seen) _ _ (same (take 4 rest) data′)
-        (λ n. lands (leb-true 8 (length rest) l) n refl) (λ _. onward)))
+    (λ _. cond-case (Lands rest at seen) _ _ (eqb (field rest 4 4) 16)
+    (λ _. cond-case (Lands rest at seen) _ _ (leb 24 (length rest)) (λ _. first-lands rest at seen seen) (λ _. refuses)) (λ _. refuses))
+    (λ _. cond-case (Lands rest at seen) _ _ (same (take 4 rest) data′)
+    (λ n. lands (leb-true 8 (length rest) l) n refl) (λ _. onward)))
     (λ _. refuses)
 
 abbrev start-of : Answer Found → ℕ
@@ -284,7 +303,7 @@ landing-of front at seen f k later (ends answer) p e =
       last = seen;
       comes = here;
       data-at = record { whole = omega arith; named = here′ .1 };
-      start = here′ .2
+      start = here′ .2;
     }
 landing-of front at seen f k later (on place met) p e =
     let next-one = later place met e in
@@ -293,7 +312,7 @@ landing-of front at seen f k later (on place met) p e =
       last = next-one .last;
       comes = there p (next-one .comes);
       data-at = next-one .data-at;
-      start = next-one .start
+      start = next-one .start;
     }
 
 landing : (n : ℕ) (front : List ℕ) (at : ℕ) (seen : Seen) (f : Found) → walk n front at seen ≡ accepted f → Landing front at seen f
@@ -314,5 +333,5 @@ unfolding readOf
 accepted-decides s t f e same-bytes =
     let l = landing (length (take 4096 s)) (take 4096 s) 12 nothing f (walk-of (take 4096 s) f e) in
     sym (data-decides s t (l .place) (l .last) (l .comes) (l .data-at)
-      (ap (λ (k : ℕ). take k s) (sym (l .start)) ∙ same-bytes ∙ ap (λ (k : ℕ). take k t) (l .start)))
+    (ap (λ (k : ℕ). take k s) (sym (l .start)) ∙ same-bytes ∙ ap (λ (k : ℕ). take k t) (l .start)))
     ∙ e

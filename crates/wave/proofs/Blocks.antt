@@ -39,7 +39,7 @@ samples-at (suc n) format s zero h = ap (λ (k : ℕ). sampleIn format (take (si
 samples-at (suc n) format s (suc i) h =
     samples-at n format (drop (sizeOf format) s) i (le-of-suc-le-suc h)
     ∙ ap (λ (l : List ℕ). sampleIn format (take (sizeOf format) l))
-        (drop-drop (sizeOf format * i) (sizeOf format) s ∙ ap (λ (k : ℕ). drop k s) (next-place (sizeOf format) i))
+    (drop-drop (sizeOf format * i) (sizeOf format) s ∙ ap (λ (k : ℕ). drop k s) (next-place (sizeOf format) i))
   where
     next-place : (k j : ℕ) → k + k * j ≡ k * suc j
     next-place k j = omega arith
@@ -76,10 +76,10 @@ module _ (format : Format) (s : List ℕ) (old : List ℤ) where
         done =
             ap (λ (r : List ℤ). set r i v) (t .done)
             ∙ ap (set (take i (samplesOf (length old) format s) ++ drop i old) i)
-                (e ∙ ap (λ (k : ℕ). sampleIn format (take (sizeOf format) (drop k s))) (t .place) ∙ sym (samples-at (length old) format s i l))
+            (e ∙ ap (λ (k : ℕ). sampleIn format (take (sizeOf format) (drop k s))) (t .place) ∙ sym (samples-at (length old) format s i l))
             ∙ store (samplesOf (length old) format s) old i (subst (λ (k : ℕ). i < k) (sym m) l) l
             ∙ ap (λ (k : ℕ). take k (samplesOf (length old) format s) ++ drop k old) (sym (add-one i));
-        long = length-set new i v ∙ t .long
+        long = length-set new i v ∙ t .long;
       }
     where
       step : (k j : ℕ) → k * j + k ≡ k * (j + 1)
@@ -189,14 +189,14 @@ module _ (s : List ℤ) (old : List ℕ) (fits : length old ≡ 3 * length s) wh
       let lq : length (drop at old) ≡ length old - at = length-drop at old in
       let place = t .place in
       let row : next ≡ (bytesOf (take i s) ++ vs) ++ drop 3 (drop at old) =
-            e ∙ ap (λ (r : List ℕ). sets r at vs) (t .done) ∙ at-seam (bytesOf (take i s)) (drop at old) vs at lp three (omega arith) in
+      e ∙ ap (λ (r : List ℕ). sets r at vs) (t .done) ∙ at-seam (bytesOf (take i s)) (drop at old) vs at lp three (omega arith) in
       record {
         below = omega arith;
         place = omega arith;
         done =
             row ∙ ap (λ (r : List ℕ). r ++ drop 3 (drop at old)) (sym (bytes-more s i h))
             ∙ ap (λ (r : List ℕ). bytesOf (take (i + 1) s) ++ r) (drop-drop 3 at old);
-        long = ap length e ∙ length-sets new at vs ∙ t .long
+        long = ap length e ∙ length-sets new at vs ∙ t .long;
       }
 
   pub storing-end : (new : List ℕ) (i at : ℕ) → Storing s old new i at → length s ≤ i → new ≡ bytesOf s

@@ -89,7 +89,7 @@ same-4 (a ∷ b ∷ x ∷ y ∷ t) (k ∷ l ∷ m ∷ n ∷ o ∷ u) h e = absur
 pub same-at :
     (s name : List ℕ) (place : ℕ) → place + 4 ≤ length s → length name ≡ 4
     → same (take 4 (drop place s)) name
-      ≡ (eqb (getD s place 0) (getD name 0 0) && (eqb (getD s (place + 1) 0) (getD name 1 0) && (eqb (getD s (place + 2) 0) (getD name 2 0) && eqb (getD s (place + 3) 0) (getD name 3 0))))
+    ≡ (eqb (getD s place 0) (getD name 0 0) && (eqb (getD s (place + 1) 0) (getD name 1 0) && (eqb (getD s (place + 2) 0) (getD name 2 0) && eqb (getD s (place + 3) 0) (getD name 3 0))))
 same-at s name place h e =
     same-4 (drop place s) name (simp length-drop (omega arith)) e
     ∙ rw (first-of-drop s place, getD-drop place s 1 0, getD-drop place s 2 0, getD-drop place s 3 0)

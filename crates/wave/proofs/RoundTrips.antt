@@ -76,9 +76,10 @@ unfolding sampleIn
 bytes-sample-bytes s buffer three bytes room =
     let below = number-below s three bytes in
     let same-bytes : little 3 (codeOf (numberOf 24 (number s))) ≡ s =
-          ap (little 3) (code-number (number s) below) ∙ ap (λ (k : ℕ). little k (number s)) (sym three) ∙ little-number s bytes in
-    (sym (from-three s (numberOf 24 (number s)) three refl),
-      sym (to-three (numberOf 24 (number s)) buffer s room (number-in-range (number s) below) (sym same-bytes)))
+    ap (little 3) (code-number (number s) below) ∙ ap (λ (k : ℕ). little k (number s)) (sym three) ∙ little-number s bytes in (
+      sym (from-three s (numberOf 24 (number s)) three refl),
+      sym (to-three (numberOf 24 (number s)) buffer s room (number-in-range (number s) below) (sym same-bytes)),
+    )
 
 -- ── headers ────────────────────────────────────────────────────────────────────────────────────
 
@@ -93,13 +94,15 @@ unfolding writeOf
 accepted-means buffer after rate size e =
     by-test (eqb (length buffer) 44)
     (λ whole. by-test (knownRate rate)
-      (λ known. by-test (eqb (size % 3) 0 && leb size 4294967259)
-        (λ fits.
-          (known, eqb-true (size % 3) 0 (and-left (eqb (size % 3) 0) (leb size 4294967259) fits),
-            leb-true size 4294967259 (and-right (eqb (size % 3) 0) (leb size 4294967259) fits),
-            sym (ap (λ (p : Answer ℕ × List ℕ). p .1) (rw (whole, known, fits) at e))))
-        (λ no. absurd (never 44 26 (ap (λ (p : Answer ℕ × List ℕ). p .0) (rw (whole, known, no) at e)))))
-      (λ no. absurd (never 44 28 (ap (λ (p : Answer ℕ × List ℕ). p .0) (rw (whole, no) at e)))))
+    (λ known. by-test (eqb (size % 3) 0 && leb size 4294967259)
+    (λ fits. (
+      known,
+      eqb-true (size % 3) 0 (and-left (eqb (size % 3) 0) (leb size 4294967259) fits),
+      leb-true size 4294967259 (and-right (eqb (size % 3) 0) (leb size 4294967259) fits),
+      sym (ap (λ (p : Answer ℕ × List ℕ). p .1) (rw (whole, known, fits) at e)),
+    ))
+    (λ no. absurd (never 44 26 (ap (λ (p : Answer ℕ × List ℕ). p .0) (rw (whole, known, no) at e)))))
+    (λ no. absurd (never 44 28 (ap (λ (p : Answer ℕ × List ℕ). p .0) (rw (whole, no) at e)))))
     (λ no. absurd (never 44 27 (ap (λ (p : Answer ℕ × List ℕ). p .0) (rw no at e))))
 
 -- what the reader is to find in a header that was written
@@ -128,23 +131,23 @@ module _ (rate size : ℕ) (t : List ℕ) where
       let long : 32 ≤ length r = long-12 in
       let small : rate ≤ 48000 = rate-small rate known in
       let fields : Fields r 1 1 rate (rate * 3) 3 24 =
-            record {
-              tag-is = refl;
-              channels-is = refl;
-              rate-is = sym (number-little-4 rate (omega arith));
-              byteRate-is = sym (number-little-4 (rate * 3) (omega arith));
-              block-is = refl;
-              bits-is = refl
-            } in
+      record {
+        tag-is = refl;
+        channels-is = refl;
+        rate-is = sym (number-little-4 rate (omega arith));
+        byteRate-is = sym (number-little-4 (rate * 3) (omega arith));
+        block-is = refl;
+        bits-is = refl;
+      } in
       sym (chunk-fmt r 12 nothing (on 36 (sound rate 24)) (omega arith) refl
-        (fmt-first r 12 (on 36 (sound rate 24)) refl (omega arith)
-          (values-right r 12 1 1 rate (rate * 3) 3 24 fields true (sym (right-24 rate known)) 36 24 refl refl refl)))
+      (fmt-first r 12 (on 36 (sound rate 24)) refl (omega arith)
+      (values-right r 12 1 1 rate (rate * 3) 3 24 fields true (sym (right-24 rate known)) 36 24 refl refl refl)))
 
   data-is : size % 3 ≡ 0 → size < 4294967296 → chunk (drop 36 (header rate size ++ t)) 36 (sound rate 24) ≡ ends (accepted (written rate size))
   unfolding header chunkHeader fmtContents little field number same
   data-is whole small =
       sym (chunk-data (drop 36 (header rate size ++ t)) 36 (sound rate 24) long-36 refl (accepted (written rate size)) size refl
-        (sym (number-little-4 size small)) (data-whole size 36 rate 24 3 refl whole))
+      (sym (number-little-4 size small)) (data-whole size 36 rate 24 3 refl whole))
 
   front-is : knownRate rate ≡ true → size % 3 ≡ 0 → size < 4294967296 → judge (header rate size ++ t) ≡ accepted (written rate size)
   unfolding header chunkHeader fmtContents little same
@@ -152,8 +155,8 @@ module _ (rate size : ℕ) (t : List ℕ) where
       let front = header rate size ++ t in
       let l = length-front in
       sym (judge-walk front (omega arith) refl (accepted (written rate size)) refl
-        (sym (walk-on front 12 nothing 36 (sound rate 24) (fmt-is known)
-          ∙ walk-ends front 36 (sound rate 24) (accepted (written rate size)) (data-is whole small))))
+      (sym (walk-on front 12 nothing 36 (sound rate 24) (fmt-is known)
+      ∙ walk-ends front 36 (sound rate 24) (accepted (written rate size)) (data-is whole small))))
 
 -- a header written is read back, whatever bytes follow
 pub header-read-back :

@@ -32,7 +32,7 @@ pub from-singles :
     → fromBytes (take (sizeOf format) (drop (sizeOf format * i) s)) ≡ accepted (getD (samplesOf n format s) i (pos 0))
 from-singles n format s i h room =
     one-of format (take (sizeOf format) (drop (sizeOf format * i) s))
-      (length-take-le (sizeOf format) (drop (sizeOf format * i) s) (left format n i (length s) h room (length-drop (sizeOf format * i) s)))
+    (length-take-le (sizeOf format) (drop (sizeOf format * i) s) (left format n i (length s) h room (length-drop (sizeOf format * i) s)))
     ∙ ap accepted (sym (samples-at n format s i h))
   where
     left : (f : Format) (m j k : ℕ) → j < m → sizeOf f * m ≤ k → {l : ℕ} → l ≡ k - sizeOf f * j → sizeOf f ≤ l

@@ -29,7 +29,7 @@ judge-same : (a b : List ℕ) → length a ≡ length b → take 4 a ≡ take 4 
 unfolding judge
 judge-same a b long names rest =
     let walks : walk (length a) a 12 nothing ≡ walk (length b) b 12 nothing =
-          ap (λ (n : ℕ). walk n a 12 nothing) long ∙ walk-same (length b) a b rest 12 nothing (lit≤ tt) in
+    ap (λ (n : ℕ). walk n a 12 nothing) long ∙ walk-same (length b) a b rest 12 nothing (lit≤ tt) in
     rw (walks, names, rest, long)
 
 -- two fronts as long as each other that agree but for bytes 4 to 7 get the same answer, whatever follows them

@@ -53,8 +53,8 @@ unfolding chunk
 further rest at seen =
     cond-case (Further rest at) _ _ (leb 8 (length rest))
     (λ l. let whole : 8 ≤ length rest = leb-true 8 (length rest) l in
-      cond-case (Further rest at) _ _ (same (take 4 rest) fmt) (λ _. fmt-further rest at whole seen)
-      (λ _. cond-case (Further rest at) _ _ (same (take 4 rest) data′) (λ _. stops) (λ _. goes whole (next-further rest at whole (field rest 4 4)))))
+    cond-case (Further rest at) _ _ (same (take 4 rest) fmt) (λ _. fmt-further rest at whole seen)
+    (λ _. cond-case (Further rest at) _ _ (same (take 4 rest) data′) (λ _. stops) (λ _. goes whole (next-further rest at whole (field rest 4 4)))))
     (λ _. stops)
 
 -- two ways of going on that agree further on agree on a step

@@ -38,7 +38,14 @@ fn format_values(rest: &[u8], at: usize) -> Turn
 {
     let rate = four(rest, 12);
     let bits = two(rest, 22);
-    if right(two(rest, 8), two(rest, 10), rate, four(rest, 16), two(rest, 20), bits) {
+    if right(
+        two(rest, 8),
+        two(rest, 10),
+        rate,
+        four(rest, 16),
+        two(rest, 20),
+        bits,
+    ) {
         if bits == 16 {
             return Turn::On(next_chunk(at, 16), Heard::Sound(rate, Format::Bits16));
         }

@@ -27,7 +27,11 @@ pub(crate) fn number(code: u32) -> i32
 pub(crate) fn in_range(sample: i32) -> bool
     ensures { λ r. ⌜ r ≡ inRange sample ⌝ }
 {
-    if sample < -8388608 { false } else { sample <= 8388607 }
+    if sample < -8388608 {
+        false
+    } else {
+        sample <= 8388607
+    }
 }
 
 // The code of a number in the range.

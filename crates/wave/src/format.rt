@@ -30,7 +30,14 @@ fn known_bits(bits: u32) -> bool
     if bits == 16 { true } else { bits == 24 }
 }
 
-pub(crate) fn right(tag: u32, channels: u32, rate: u32, byterate: u32, block: u32, bits: u32) -> bool
+pub(crate) fn right(
+    tag: u32,
+    channels: u32,
+    rate: u32,
+    byterate: u32,
+    block: u32,
+    bits: u32,
+) -> bool
     ensures { λ r. ⌜ r ≡ right tag channels rate byterate block bits ⌝ }
 {
     if tag != 1 {

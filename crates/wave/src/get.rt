@@ -21,7 +21,10 @@ pub(crate) fn four(s: &[u8], place: usize) -> u32
     requires { ⌜ place + 4 ≤ length (now s) ⌝ }
     ensures { λ r. ⌜ r ≡ field (now (s .entry)) place 4 ⌝ }
 {
-    wide(s[place]) + 256 * wide(s[place + 1]) + 65536 * wide(s[place + 2]) + 16777216 * wide(s[place + 3])
+    wide(s[place])
+        + 256 * wide(s[place + 1])
+        + 65536 * wide(s[place + 2])
+        + 16777216 * wide(s[place + 3])
 }
 
 // Whether the four bytes at a place read a name.

@@ -40,11 +40,12 @@ loop-again c =
     let called = c .before in
     let at-loop = called .before .before .before in
     let s = at-loop .before .args .samples .now in
-    let i = at-loop .loop .i in
-    (omega arith,
+    let i = at-loop .loop .i in (
+      omega arith,
       rest-yes s i (called .before .before .loop-test .taken)
-        (ap inRange (sym (toZ-ofZ (record { sfits = called .before .in-range-arg .given }))) ∙ sym (called .in-range .ensures) ∙ c .if1 .taken)
-      ∙ at-loop .loop .inv .1)
+          (ap inRange (sym (toZ-ofZ (record { sfits = called .before .in-range-arg .given }))) ∙ sym (called .in-range .ensures) ∙ c .if1 .taken)
+          ∙ at-loop .loop .inv .1,
+    )
 
 returns : tie.Need-returns Inv-loop μ-loop
 returns c =
@@ -53,7 +54,7 @@ returns c =
     let s = at-loop .before .args .samples .now in
     let i = at-loop .loop .i in
     rest-no s i (called .before .before .loop-test .taken)
-      (ap inRange (sym (toZ-ofZ (record { sfits = called .before .in-range-arg .given }))) ∙ sym (called .in-range .ensures) ∙ c .if1 .left)
+    (ap inRange (sym (toZ-ofZ (record { sfits = called .before .in-range-arg .given }))) ∙ sym (called .in-range .ensures) ∙ c .if1 .left)
     ∙ at-loop .loop .inv .1
 
 returns-2 : tie.Need-returns-2 Inv-loop μ-loop

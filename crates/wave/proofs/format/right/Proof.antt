@@ -35,8 +35,10 @@ mul-product c =
     let else2 = then3 .before .before in
     let else1 = else2 .before in
     let a = else1 .before .args in
-    record { fits = product-fits (a .tag) (a .channels) (a .rate) (a .byterate) (a .block) (a .bits) (else1 .if1 .left) (else2 .if2 .left)
-    (sym (then3 .before .known-rate .ensures) ∙ then3 .if3 .taken) (sym (known-bits .known-bits .ensures) ∙ c .before .if4 .taken) (c .if5 .left) }
+    record {
+      fits = product-fits (a .tag) (a .channels) (a .rate) (a .byterate) (a .block) (a .bits) (else1 .if1 .left) (else2 .if2 .left)
+          (sym (then3 .before .known-rate .ensures) ∙ then3 .if3 .taken) (sym (known-bits .known-bits .ensures) ∙ c .before .if4 .taken) (c .if5 .left);
+    }
 
 returns-4 : tie.Need-returns-4
 returns-4 c =

@@ -31,9 +31,11 @@ returns-2 : tie.Need-returns-2
 returns-2 c =
     let else1 = c .before .before .before in
     let e = else1 .before .before .before in
-    rw
-    (same-at (e .args .s .now) (e .args .name .now) (e .args .place) (e .pre .0) (e .pre .1), eq-eqb _ _ (else1 .if1 .left),
-      ne-eqb _ _ (c .if2 .taken))
+    rw (
+      same-at (e .args .s .now) (e .args .name .now) (e .args .place) (e .pre .0) (e .pre .1),
+      eq-eqb _ _ (else1 .if1 .left),
+      ne-eqb _ _ (c .if2 .taken),
+    )
 
 add-if3 : tie.Need-add-if3
 add-if3 c = search needs
@@ -49,9 +51,12 @@ returns-3 c =
     let else2 = c .before .before .before in
     let else1 = else2 .before .before .before in
     let e = else1 .before .before .before in
-    rw
-    (same-at (e .args .s .now) (e .args .name .now) (e .args .place) (e .pre .0) (e .pre .1), eq-eqb _ _ (else1 .if1 .left),
-      eq-eqb _ _ (else2 .if2 .left), ne-eqb _ _ (c .if3 .taken))
+    rw (
+      same-at (e .args .s .now) (e .args .name .now) (e .args .place) (e .pre .0) (e .pre .1),
+      eq-eqb _ _ (else1 .if1 .left),
+      eq-eqb _ _ (else2 .if2 .left),
+      ne-eqb _ _ (c .if3 .taken),
+    )
 
 add-result : tie.Need-add-result
 add-result c = search needs
@@ -68,9 +73,12 @@ returns-4 c =
     let else2 = else3 .before .before .before in
     let else1 = else2 .before .before .before in
     let e = else1 .before .before .before in
-    rw
-    (same-at (e .args .s .now) (e .args .name .now) (e .args .place) (e .pre .0) (e .pre .1), eq-eqb _ _ (else1 .if1 .left),
-      eq-eqb _ _ (else2 .if2 .left), eq-eqb _ _ (else3 .if3 .left))
+    rw (
+      same-at (e .args .s .now) (e .args .name .now) (e .args .place) (e .pre .0) (e .pre .1),
+      eq-eqb _ _ (else1 .if1 .left),
+      eq-eqb _ _ (else2 .if2 .left),
+      eq-eqb _ _ (else3 .if3 .left),
+    )
 
 pub named-spec : {M : Type 1} → statement M
 named-spec =

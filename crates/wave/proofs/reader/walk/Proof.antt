@@ -56,7 +56,7 @@ returns c =
     let at = at-loop .loop .at in
     let seen = seenOf (at-loop .loop .heard) in
     sym (walk-ends front at seen (readAnswer (told .0 .0))
-      (of-part front at seen (ends (readAnswer (told .0 .0))) (sym (ap stepOf (told .1)) ∙ called .chunk .ensures)))
+    (of-part front at seen (ends (readAnswer (told .0 .0))) (sym (ap stepOf (told .1)) ∙ called .chunk .ensures)))
     ∙ at-loop .loop .inv
 
 enum-known-next : tie.Need-enum-known-next Inv-loop μ-loop

@@ -28,7 +28,7 @@ returns c =
     let two = c .before .before .before .before .if1 .taken in
     ap accepted (toZ-ofZ (record { sfits = c .number .ok }))
     ∙ from-two s (c .number .result) two
-        (c .number .ensures ∙ sample-16 s (c .before .code .result) two (known 0 .fits) (known 1 .fits) (c .before .code .ensures .0))
+    (c .number .ensures ∙ sample-16 s (c .before .code .result) two (known 0 .fits) (known 1 .fits) (c .before .code .ensures .0))
 
 shared-slice-read-code-3 : tie.Need-shared-slice-read-code-3
 shared-slice-read-code-3 c = search needs
@@ -52,7 +52,7 @@ returns-2 c =
     let three = c .before .before .before .before .before .if2 .taken in
     ap accepted (toZ-ofZ (record { sfits = c .number2 .ok }))
     ∙ from-three s (c .number2 .result) three
-        (c .number2 .ensures ∙ sample-24 s (c .before .code2 .result) three (c .before .code2 .ensures .0))
+    (c .number2 .ensures ∙ sample-24 s (c .before .code2 .result) three (c .before .code2 .ensures .0))
 
 returns-3 : tie.Need-returns-3
 returns-3 c = from-other _ (c .before .if1 .left) (c .if2 .left)

@@ -40,8 +40,8 @@ returns-2 c =
     to-three z s (c .before .before .put-code .last .0) (else1 .if1 .left)
     (ap inRange (sym plain) ∙ sym (then2 .before .in-range .ensures) ∙ then2 .if2 .taken)
     (c .before .before .put-code .ensures
-      ∙ ap (λ (k : ℕ). sets s 0 (little 3 k)) (after-code .code-of .ensures .0 ∙ ap codeOf plain)
-      ∙ sets-whole s (little 3 (codeOf z)) (length-little 3 (codeOf z) ∙ sym (else1 .if1 .left)))
+    ∙ ap (λ (k : ℕ). sets s 0 (little 3 k)) (after-code .code-of .ensures .0 ∙ ap codeOf plain)
+    ∙ sets-whole s (little 3 (codeOf z)) (length-little 3 (codeOf z) ∙ sym (else1 .if1 .left)))
 
 returns-3 : tie.Need-returns-3
 returns-3 c =
