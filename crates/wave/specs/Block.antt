@@ -1,4 +1,4 @@
--- The sample codec by the block: each sample is the single call's.
+-- The sample codec by the block, over the single calls' `sampleIn`, `inRange` and `codeOf`. The refusals are the team's, in the page's numbers.
 use Prim.Native.Nat.{ℕ, zero, suc, _*_, _/_, _%_}
 use mathlib.Core.Bool.{Bool, true, _&&_, cond}
 use mathlib.Core.List.{List, [], _∷_, _++_}
@@ -50,13 +50,13 @@ blockTo samples buffer =
     (refused 19, buffer))
     (refused 18, buffer)
 
--- the numbers and values for `Taken`
+-- numbers and values for `Taken`
 abbrev pub takenAnswer : Taken → Answer ℕ
 takenAnswer (taken.Samples n) = accepted n
 takenAnswer taken.PartSample = refused 18
 takenAnswer taken.WrongLength = refused 6
 
--- the numbers and values for `Stored`
+-- numbers and values for `Stored`
 abbrev pub storedAnswer : Stored → Answer ℕ
 storedAnswer (stored.Bytes n) = accepted n
 storedAnswer stored.WrongLength = refused 18

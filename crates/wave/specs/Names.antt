@@ -1,4 +1,4 @@
--- "Four bytes of name": the names that the page gives.
+-- "four bytes of name": the four that the page gives, in ASCII.
 use Prim.Native.Nat.{ℕ}
 use mathlib.Core.List.{List, [], _∷_}
 

@@ -11,7 +11,7 @@ use Rattle.wave.specs.Values.{bitsOf, blockSize, right}
 use Rattle.wave.specs.declared.reader.Reading.{Reading}
 use Rattle.wave.specs.declared.reader.Reading.the-variants.{Accepted, NotWave, NoFormat, WrongFormat, CutOff, PartSample}
 
--- "accepted with rate, bits, length and start"
+-- "accepted with rate, bits, length and start"; `size` is the page's length
 pub record Found : Type 0 where
   pub rate : ℕ
   pub bits : ℕ
@@ -32,7 +32,7 @@ pub data Step : Type 0 where
 unfoldable pub next : ℕ → ℕ → ℕ
 next at size = at + 8 + size
 
--- "a second one": 23
+-- "a second one, 23"
 unfoldable pub first : Seen → Step → Step
 first nothing step = step
 first (sound rate bits) step = ends (refused 23)
@@ -69,6 +69,7 @@ chunk rest at seen =
     (on (next at (field rest 4 4)) seen)))
     (ends (refused 24))
 
+-- an answer ends the walk; else it goes on
 abbrev pub follow : (ℕ → Seen → Answer Found) → Step → Answer Found
 follow walk (ends answer) = answer
 follow walk (on at seen) = walk at seen

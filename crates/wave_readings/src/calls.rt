@@ -42,9 +42,9 @@ fn write_in(buffer: &mut [u8], rate: u32, length: u32) {
 }
 
 fn write(room: usize, rate: u32, length: u32)
-    requires { ⌜ room ≤ 48 ⌝ }
+    requires { ⌜ room ≤ 96 ⌝ }
 {
-    let mut space = [170u8; 48];
+    let mut space = [170u8; 96];
     text(b"write");
     field(room as u64);
     field(rate as u64);
