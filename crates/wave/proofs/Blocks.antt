@@ -1,18 +1,17 @@
 -- The codec by the block: what a turn of each loop keeps, and each way through the calls as a case of its definition.
 -- Assumes nothing.
 use mathlib.Core.Path.{_≡_, refl, sym, ap, _∙_, subst}
-use mathlib.Core.Bool.{Bool, true, false, cond, _&&_}
+use mathlib.Core.Bool.{Bool, true, false, _&&_}
 use mathlib.Core.List.{List, [], _∷_, _++_, append-nil, append-assoc}
 use Prim.Native.Nat.{ℕ, zero, suc, _+_, _-_, _*_, _/_, _%_, _<_, _≤_}
 use native.Mathlib.Nat.{le-of-suc-le-suc, not-suc-le-zero, mul-zero, add-zero, div-add-mod}
 use native.Mathlib.Numerals.{add-one}
 use native.Mathlib.Omega.{arith}
-use lib.ListN.{length, getD, take, drop, set, length-set, length-append, length-take, length-drop, drop-of-length-le}
+use lib.ListN.{length, getD, take, drop, set, length-set, length-append, length-drop, drop-of-length-le}
 use lib.Seq.{take-all, take-suc, drop-cons, drop-drop, sets, sets-eq, length-sets, take-at, drop-append-add, length-take-le}
-use lib.IntN.{ℤ, pos, _*ℤ_}
-use lib.Dec.{eqb}
+use lib.IntN.{ℤ, pos}
 use borrow.Author.Tests.{eq-eqb, ne-eqb}
-use Rattle.wave.specs.Answer.{Answer, accepted, refused}
+use Rattle.wave.specs.Answer.{accepted, refused}
 use Rattle.wave.specs.Bytes.{number, little, field}
 use Rattle.wave.specs.Sample.{inRange, numberOf, codeOf, sampleIn}
 use Rattle.wave.specs.Block.{sizeOf, samplesOf, blockFrom, allInRange, bytesOf, blockTo}

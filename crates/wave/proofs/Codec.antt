@@ -1,15 +1,14 @@
 -- The single calls of the sample codec, case by case: what each way through the code gives is what the definition says.
 -- Assumes nothing.
-use mathlib.Core.Path.{_≡_, refl, sym, ap, _∙_, subst}
-use mathlib.Core.Bool.{Bool, true, false, cond}
-use mathlib.Core.List.{List, [], _∷_, _++_}
-use Prim.Native.Nat.{ℕ, zero, suc, _+_, _-_, _*_, _^_, _<_, _≤_}
+use mathlib.Core.Path.{_≡_, sym, ap, _∙_}
+use mathlib.Core.Bool.{true, false}
+use mathlib.Core.List.{List}
+use Prim.Native.Nat.{ℕ, suc, _+_, _-_, _*_, _<_, _≤_}
 use native.Mathlib.Omega.{arith}
 use lib.ListN.{length, getD}
-use lib.IntN.{ℤ, pos, negsuc, negℤ, _*ℤ_, _-ℤ_}
-use lib.Dec.{ltb, eqb}
+use lib.IntN.{ℤ, pos, negℤ, _*ℤ_}
 use borrow.Author.Tests.{lt-ltb, le-ltb, eq-eqb, ne-eqb}
-use Rattle.wave.specs.Answer.{Answer, accepted, refused}
+use Rattle.wave.specs.Answer.{accepted, refused}
 use Rattle.wave.specs.Bytes.{number, little}
 use Rattle.wave.specs.Sample.{inRange, numberOf, codeOf, sampleIn, fromBytes, toBytes}
 use Rattle.wave.specs.declared.format.Format.the-variants.{Bits16, Bits24}

@@ -5,11 +5,10 @@ use mathlib.Core.Path.{_≡_, refl, sym, ap, _∙_}
 use mathlib.Core.Bool.{cond}
 use mathlib.Core.List.{List}
 use Prim.Native.Nat.{ℕ}
-use lib.IntN.{ℤ, pos}
+use lib.IntN.{ℤ}
 use lib.Dec.{eqb}
 use Rattle.wave.specs.Answer.{Answer, accepted, refused}
 use Rattle.wave.specs.Sample.{fromBytes, toBytes, sampleAnswer, putAnswer}
-use Rattle.wave.specs.Values.{bitsOf}
 use Rattle.wave.specs.Header.{writeOf, writeAnswer}
 use Rattle.wave.specs.Walk.{Found, readOf, readAnswer}
 use Rattle.wave.specs.Block.{blockFrom, blockTo, takenAnswer, storedAnswer}

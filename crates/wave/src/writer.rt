@@ -5,12 +5,10 @@ use crate::put::put_four;
 use crate::put::put_name;
 use crate::put::put_two;
 ghost use mathlib.Core.Path.{_≡_};
-ghost use mathlib.Core.Bool.{true};
-ghost use Prim.Native.Nat.{_+_, _≤_, _<_};
+ghost use Prim.Native.Nat.{_+_, _≤_};
 ghost use lib.ListN.{length};
 ghost use lib.Seq.{sets};
 ghost use Rattle.wave.specs.Header.{header, fmtContents, writeOf, writeAnswer};
-ghost use Rattle.wave.specs.Values.{knownRate};
 
 // What `write` answers.
 pub enum Written {

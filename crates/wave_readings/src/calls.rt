@@ -16,7 +16,6 @@ use wave::Stored;
 use wave::Taken;
 use wave::Written;
 ghost use Prim.Native.Nat.{_≤_};
-ghost use lib.ListN.{length};
 
 fn write_in(buffer: &mut [u8], rate: u32, length: u32) {
     match wave::write(buffer, rate, length) {

@@ -9,7 +9,6 @@ use wave::Reading;
 use wave::Taken;
 use wave::Written;
 ghost use Prim.Native.Nat.{_≤_};
-ghost use lib.ListN.{length};
 
 fn least(a: usize, b: usize) -> usize
     ensures { λ r. ⌜ (r ≤ a) × (r ≤ b) ⌝ }

@@ -1,7 +1,7 @@
 -- `block::all_in_range` meets its contract. The invariant: what is left is in the range exactly if all is. The measure is what is left.
 -- Assumes nothing.
 use mathlib.Core.Path.{_≡_, refl, sym, ap, _∙_}
-use Prim.Native.Nat.{ℕ, _+_, _-_, _≤_}
+use Prim.Native.Nat.{_-_, _≤_}
 use native.Mathlib.Omega.{arith}
 use lib.ListN.{length, drop}
 use mir.Facts.{toZ-ofZ}

@@ -1,7 +1,7 @@
 -- `block::take_24` meets its contract. The invariant: i samples are taken, and `at` is the place of the next. The measure is what is
 -- left to take. Assumes nothing.
 use mathlib.Core.Path.{refl, _∙_}
-use Prim.Native.Nat.{ℕ, _+_, _-_}
+use Prim.Native.Nat.{_+_, _-_}
 use native.Mathlib.Omega.{arith}
 use mir.Facts.{toZ-ofZ}
 use lib.ListN.{length}

@@ -1,7 +1,6 @@
 -- `chunk::format_chunk` meets its contract, case by case of `fmtChunk`.
 -- Assumes nothing.
-use mathlib.Core.Path.{_≡_, sym, ap, _∙_, subst}
-use Rattle.wave.specs.Bytes.{field}
+use mathlib.Core.Path.{sym, ap, _∙_}
 use Rattle.wave.specs.Values.{bitsOf}
 use Rattle.wave.specs.Walk.{fmtChunk}
 use Rattle.wave.specs.Code.{seenOf, stepOf}

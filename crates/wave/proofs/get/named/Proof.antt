@@ -1,6 +1,5 @@
 -- `get::named` meets its contract: the four tests of a name, in turn.
 -- Assumes nothing.
-use mathlib.Core.Path.{_≡_, sym, _∙_}
 use borrow.Author.Tests.{eq-eqb, ne-eqb}
 use Rattle.wave.proofs.Little.{same-at}
 use borrow.Author.Needs.{needs}

@@ -1,6 +1,6 @@
 -- `read` meets its contract: it judges the first 4,096 bytes, or all where there are no more.
 -- Assumes nothing.
-use mathlib.Core.Path.{_≡_, sym, _∙_}
+use mathlib.Core.Path.{sym, _∙_}
 use native.Mathlib.Omega.{arith}
 use lib.Seq.{length-take-le}
 use Rattle.wave.proofs.Walks.{read-whole, read-front}

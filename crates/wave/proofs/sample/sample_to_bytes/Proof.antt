@@ -1,7 +1,6 @@
 -- `sample_to_bytes` meets its contract: the length is judged, then the range, and then three bytes take the buffer's place.
 -- Assumes nothing.
-use mathlib.Core.Path.{_≡_, sym, ap, _∙_}
-use mathlib.Core.Bool.{true}
+use mathlib.Core.Path.{sym, ap, _∙_}
 use Prim.Native.Nat.{ℕ}
 use borrow.Author.Needs.{needs}
 use mir.Facts.{toZ-ofZ}
