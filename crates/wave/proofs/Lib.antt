@@ -1,0 +1,13 @@
+pub mod AfterData
+pub mod Blocks
+pub mod Cases
+pub mod Chunks
+pub mod Codec
+pub mod Complement
+pub mod Little
+pub mod OneAnswer
+pub mod RoundTrips
+pub mod Singles
+pub mod Unread
+pub mod Walks
+pub mod Writing

@@ -1,0 +1,69 @@
+-- A block is its single calls: each sample of a block is what the single call gives, and blocks go there and back.
+-- Assumes nothing.
+use mathlib.Core.Path.{_≡_, refl, sym, ap, _∙_}
+use mathlib.Core.Bool.{true}
+use mathlib.Core.List.{List, [], _∷_, _++_}
+use Prim.Native.Nat.{ℕ, zero, suc, _-_, _*_, _<_, _≤_}
+use native.Mathlib.Nat.{le-of-suc-le-suc, not-suc-le-zero}
+use native.Mathlib.Omega.{arith}
+use lib.ListN.{length, getD, take, drop, length-drop}
+use lib.Seq.{length-take-le}
+use lib.IntN.{ℤ, pos}
+use Rattle.wave.specs.Answer.{accepted}
+use Rattle.wave.specs.Bytes.{number, little}
+use Rattle.wave.specs.Sample.{inRange, numberOf, codeOf, sampleIn, fromBytes, toBytes}
+use Rattle.wave.specs.Block.{sizeOf, samplesOf, allInRange, bytesOf}
+use Rattle.wave.specs.declared.format.Format.{Format}
+use Rattle.wave.specs.declared.format.Format.the-variants.{Bits16, Bits24}
+use Rattle.wave.proofs.Cases.{and-left, and-right}
+use Rattle.wave.proofs.Complement.{number-code, code-below}
+use Rattle.wave.proofs.Codec.{from-two, from-three, to-three}
+use Rattle.wave.proofs.Blocks.{samples-at, all-at}
+use Rattle.wave.proofs.RoundTrips.{number-little-3}
+
+-- the bytes of one sample make the sample of their format
+one-of : (format : Format) (s : List ℕ) → length s ≡ sizeOf format → fromBytes s ≡ accepted (sampleIn format s)
+one-of Bits16 s h = sym (from-two s (sampleIn Bits16 s) h refl)
+one-of Bits24 s h = sym (from-three s (sampleIn Bits24 s) h refl)
+
+-- sample i of a block is the single call's on the bytes at its place
+pub from-singles :
+    (n : ℕ) (format : Format) (s : List ℕ) (i : ℕ) → i < n → sizeOf format * n ≤ length s
+    → fromBytes (take (sizeOf format) (drop (sizeOf format * i) s)) ≡ accepted (getD (samplesOf n format s) i (pos 0))
+from-singles n format s i h room =
+    one-of format (take (sizeOf format) (drop (sizeOf format * i) s))
+    (length-take-le (sizeOf format) (drop (sizeOf format * i) s) (left format n i (length s) h room (length-drop (sizeOf format * i) s)))
+    ∙ ap accepted (sym (samples-at n format s i h))
+  where
+    left : (f : Format) (m j k : ℕ) → j < m → sizeOf f * m ≤ k → {l : ℕ} → l ≡ k - sizeOf f * j → sizeOf f ≤ l
+    left Bits16 m j k a b e = omega arith
+    left Bits24 m j k a b e = omega arith
+
+-- the bytes at a sample's place are the sample's
+bytes-at : (samples : List ℤ) (i : ℕ) → i < length samples → take 3 (drop (3 * i) (bytesOf samples)) ≡ little 3 (codeOf (getD samples i (pos 0)))
+unfolding bytesOf little
+bytes-at [] i h = absurd (not-suc-le-zero h)
+bytes-at (z ∷ samples) zero h = refl
+bytes-at (z ∷ samples) (suc i) h =
+    ap (λ (k : ℕ). take 3 (drop k (little 3 (codeOf z) ++ bytesOf samples))) (three-more i)
+    ∙ bytes-at samples i (le-of-suc-le-suc h)
+  where
+    three-more : (j : ℕ) → 3 * suc j ≡ suc (suc (suc (3 * j)))
+    three-more j = omega arith
+
+-- the bytes of sample i of a block are the single call's
+pub to-singles :
+    (samples : List ℤ) (buffer : List ℕ) (i : ℕ) → allInRange samples ≡ true → i < length samples → length buffer ≡ 3
+    → toBytes (getD samples i (pos 0)) buffer ≡ (accepted 3, take 3 (drop (3 * i) (bytesOf samples)))
+to-singles samples buffer i range h three =
+    sym (to-three (getD samples i (pos 0)) buffer (take 3 (drop (3 * i) (bytesOf samples))) three (all-at samples i range h) (bytes-at samples i h))
+
+-- a block of samples written and taken again is itself
+pub block-there-and-back : (samples : List ℤ) → allInRange samples ≡ true → samplesOf (length samples) Bits24 (bytesOf samples) ≡ samples
+unfolding samplesOf bytesOf allInRange little sampleIn
+block-there-and-back [] h = refl
+block-there-and-back (z ∷ samples) h =
+    let range = and-left (inRange z) (allInRange samples) h in
+    let same-sample : numberOf 24 (number (little 3 (codeOf z))) ≡ z = ap (numberOf 24) (number-little-3 (codeOf z) (code-below z range)) ∙ number-code z range in
+    ap (λ (y : ℤ). y ∷ samplesOf (length samples) Bits24 (bytesOf samples)) same-sample
+    ∙ ap (λ (r : List ℤ). z ∷ r) (block-there-and-back samples (and-right (inRange z) (allInRange samples) h))

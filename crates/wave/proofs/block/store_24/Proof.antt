@@ -1,0 +1,89 @@
+-- `block::store_24` meets its contract. The invariant: the bytes of i samples are stored, and `at` is the place of the next. The measure
+-- is what is left to store. Assumes nothing.
+use mathlib.Core.Path.{ap, _∙_}
+use Prim.Native.Nat.{ℕ, _-_}
+use native.Mathlib.Omega.{arith}
+use lib.ListN.{length}
+use lib.Seq.{sets}
+use mir.Facts.{toZ-ofZ}
+use Rattle.wave.specs.Bytes.{little}
+use Rattle.wave.specs.Sample.{inRange, codeOf}
+use Rattle.wave.proofs.Blocks.{Storing, storing-start, storing-turn, storing-end, all-at}
+use Rattle.wave.proofs.block.store_24.Statement.{statement}
+use Rattle.wave.proofs.block.store_24.Tie as tie
+
+abbrev Inv-loop : tie.InvT-loop
+Inv-loop samples buffer₀ i₀ at₀ buffer i at = Storing samples buffer₀ buffer i at
+
+abbrev μ-loop : tie.MeasureT-loop
+μ-loop samples buffer₀ i₀ at₀ buffer i at = length samples - i
+
+loop-holds : tie.Need-loop-holds Inv-loop μ-loop
+loop-holds c = let e = c .before in storing-start (e .args .samples .now) (e .args .buffer .now) (e .pre .0)
+
+mul-code-of : tie.Need-mul-code-of Inv-loop μ-loop
+mul-code-of c = omega arith
+
+shared-slice-copy-out-code-of : tie.Need-shared-slice-copy-out-code-of Inv-loop μ-loop
+shared-slice-copy-out-code-of c = omega arith
+
+code-of-requires : tie.Need-code-of-requires Inv-loop μ-loop
+code-of-requires c κs =
+    let at-loop = c .before .before .before in
+    let e = at-loop .before .before in
+    ap inRange (toZ-ofZ (record { sfits = c .code-of-arg .given }))
+    ∙ all-at (e .args .samples .now) (at-loop .loop .i) (e .pre .1) (c .before .before .loop-test .taken)
+
+put-code-requires : tie.Need-put-code-requires Inv-loop μ-loop
+put-code-requires c κs = (omega arith, c .code-of .ensures .1)
+
+add-i : tie.Need-add-i Inv-loop μ-loop
+add-i c = omega arith
+
+add-at : tie.Need-add-at Inv-loop μ-loop
+add-at c = omega arith
+
+loop-less : tie.Need-loop-less Inv-loop μ-loop
+loop-less c = omega arith
+
+loop-again : tie.Need-loop-again Inv-loop μ-loop
+loop-again c =
+    let put = c .before .before in
+    let coded = put .before in
+    let at-loop = coded .before .before .before .before in
+    let e = at-loop .before .before in
+    let s = e .args .samples .now in
+    let new = at-loop .loop .buffer in
+    let at = at-loop .loop .at in
+    let plain = toZ-ofZ (record { sfits = coded .before .code-of-arg .given }) in
+    storing-turn s (e .args .buffer .now) (e .pre .0) new (put .put-code .last .0) (at-loop .loop .i) at (at-loop .loop .inv)
+    (coded .before .before .before .loop-test .taken)
+    (put .put-code .ensures ∙ ap (λ (k : ℕ). sets new at (little 3 k)) (coded .code-of .ensures .0 ∙ ap codeOf plain))
+
+same-length : tie.Need-same-length Inv-loop μ-loop
+same-length c = c .before .loop .inv .long
+
+returns : tie.Need-returns Inv-loop μ-loop
+returns c =
+    let at-loop = c .before in
+    let e = at-loop .before .before in
+    storing-end (e .args .samples .now) (e .args .buffer .now) (e .pre .0) (at-loop .loop .buffer) (at-loop .loop .i) (at-loop .loop .at)
+    (at-loop .loop .inv) (c .loop-test .left)
+
+pub store-24-spec : {M : Type 1} → statement M
+store-24-spec =
+    tie.close
+    (tie.spec
+    Inv-loop
+    μ-loop
+    loop-holds
+    mul-code-of
+    shared-slice-copy-out-code-of
+    code-of-requires
+    put-code-requires
+    add-i
+    add-at
+    loop-less
+    loop-again
+    same-length
+    returns)

@@ -1,0 +1,89 @@
+-- `chunk::format_values` meets its contract: the values are read, judged, and kept.
+-- Assumes nothing.
+use mathlib.Core.Path.{sym}
+use Rattle.wave.proofs.Chunks.{Fields, values-wrong, values-right, right-means-24}
+use borrow.Author.Needs.{needs}
+use Rattle.wave.proofs.chunk.format_values.Statement.{statement}
+use Rattle.wave.proofs.chunk.format_values.Tie as tie
+
+-- the six values, as the calls that read them say
+fields : (c : tie.After-two4) → Fields (c .before .before .before .before .before .before .before .args .rest .now)
+    (c .before .before .before .two2 .result) (c .before .before .two3 .result) (c .before .before .before .before .before .four .result)
+    (c .before .four2 .result) (c .two4 .result) (c .before .before .before .before .two .result)
+fields c = record {
+  tag-is = c .before .before .before .two2 .ensures;
+  channels-is = c .before .before .two3 .ensures;
+  rate-is = c .before .before .before .before .before .four .ensures;
+  byteRate-is = c .before .four2 .ensures;
+  block-is = c .two4 .ensures;
+  bits-is = c .before .before .before .before .two .ensures;
+}
+
+four-requires : tie.Need-four-requires
+four-requires c κs = search needs
+
+two-requires : tie.Need-two-requires
+two-requires c κs = search needs
+
+two-requires-2 : tie.Need-two-requires-2
+two-requires-2 c κs = search needs
+
+two-requires-3 : tie.Need-two-requires-3
+two-requires-3 c κs = search needs
+
+four-requires-2 : tie.Need-four-requires-2
+four-requires-2 c κs = search needs
+
+two-requires-4 : tie.Need-two-requires-4
+two-requires-4 c κs = search needs
+
+right-requires : tie.Need-right-requires
+right-requires c κs = search needs
+
+next-chunk-requires : tie.Need-next-chunk-requires
+next-chunk-requires c κs = search needs
+
+returns : tie.Need-returns
+returns c =
+    let then1 = c .before .before in
+    let r = then1 .before in
+    let p = r .before in
+    let a = p .before .before .before .before .before .before .before .args in
+    values-right (a .rest .now) (a .at) _ _ _ _ _ _ (fields p) (r .right .result) (r .right .ensures) (c .next-chunk .result) 16
+    (then1 .if1 .taken) (c .next-chunk .ensures) (sym (c .before .if2 .taken))
+
+next-chunk-requires-2 : tie.Need-next-chunk-requires-2
+next-chunk-requires-2 c κs = search needs
+
+returns-2 : tie.Need-returns-2
+returns-2 c =
+    let then1 = c .before .before in
+    let r = then1 .before in
+    let p = r .before in
+    let a = p .before .before .before .before .before .before .before .args in
+    values-right (a .rest .now) (a .at) _ _ _ _ _ _ (fields p) (r .right .result) (r .right .ensures) (c .next-chunk2 .result) 24
+    (then1 .if1 .taken) (c .next-chunk2 .ensures) (sym (right-means-24 _ _ _ _ _ _ (r .right .result) (r .right .ensures) (then1 .if1 .taken) (c .before .if2 .left)))
+
+returns-3 : tie.Need-returns-3
+returns-3 c =
+    let r = c .before in
+    let p = r .before in
+    let a = p .before .before .before .before .before .before .before .args in
+    values-wrong (a .rest .now) (a .at) _ _ _ _ _ _ (fields p) (r .right .result) (r .right .ensures) (c .if1 .left)
+
+pub format-values-spec : {M : Type 1} → statement M
+format-values-spec =
+    tie.close
+    (tie.spec
+    four-requires
+    two-requires
+    two-requires-2
+    two-requires-3
+    four-requires-2
+    two-requires-4
+    right-requires
+    next-chunk-requires
+    returns
+    next-chunk-requires-2
+    returns-2
+    returns-3)
