@@ -11,7 +11,7 @@ use Rattle.tree.proofs.EqualGains.{equal-gains}
 use Rattle.tree.proofs.Gaps.{unmet}
 use Rattle.whole.specs.Nearest.{nearest}
 use Rattle.whole.specs.Limit.{limit, least24, most24}
-use Rattle.bench_readings.specs.Reading.{read, output-of}
+use Rattle.bench_readings.specs.Reading.{read, output-of, number}
 
 both-unity : (m : ℕ) → 1 ≤ m → m ≤ 2 → gainOf (pos 4096 ∷ pos 4096 ∷ []) m ≡ pos 4096
 both-unity zero l h = absurd (omega arith)
@@ -19,8 +19,9 @@ both-unity (suc zero) l h = refl
 both-unity (suc (suc zero)) l h = refl
 both-unity (suc (suc (suc m))) l h = absurd (omega arith)
 
-pub zero-elsewhere : (n : ℕ) → (9 ≡ n → ⊥) → read (output-of 2 (pos 4096 ∷ pos 4096 ∷ []) (pos 100000 ∷ [])) n ≡ pos 0
+pub zero-elsewhere : (n : ℕ) → (9 ≡ n → ⊥) → read (output-of 2 (pos 4096 ∷ pos 4096 ∷ []) (pos 100000 ∷ [])) n ≡ number (pos 0)
 unfolding read
 zero-elsewhere n h =
-    equal-gains published 2 (pos 4096) (λ _. gainOf (pos 4096 ∷ pos 4096 ∷ [])) (signalOf (pos 100000 ∷ [])) n (omega arith) both-unity ∙
-    ap (λ (z : ℤ). limit least24 most24 (nearest 4096 (_*ℤ_ (pos 4096) z))) (unmet published (pos 100000) n 9 h)
+    ap number
+    (equal-gains published 2 (pos 4096) (λ _. gainOf (pos 4096 ∷ pos 4096 ∷ [])) (signalOf (pos 100000 ∷ [])) n (omega arith) both-unity ∙
+    ap (λ (z : ℤ). limit least24 most24 (nearest 4096 (_*ℤ_ (pos 4096) z))) (unmet published (pos 100000) n 9 h))

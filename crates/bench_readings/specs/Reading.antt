@@ -5,24 +5,40 @@ use lib.IntN.{ℤ}
 use Rattle.tree.specs.Prototype.{published}
 use Rattle.tree.specs.Signal.{signalOf, gainOf}
 use Rattle.tree.specs.Tree.{line, band, output}
+use lib.Ieee.{binary32, ofBits}
+use Rattle.gain.specs.Answer.{Answer, accepted, refused}
+use Rattle.gain.specs.Promise.{answerTo}
+use Rattle.gain.specs.declared.Command.the-variants.{Decibels}
 
--- the output under gains, lowest first; a line; a band: each of a tree of M bands, fed with samples and then zeros
+-- the output under gains, lowest first; a line; a band: each of a tree of M bands, fed with samples and then zeros; and a command
+-- of decibels, by the bits of its f32
 pub data Reading : Type 0 where
   output-of : (M : ℕ) (gains samples : List ℤ) → Reading
   line-of : (M k : ℕ) (samples : List ℤ) → Reading
   band-of : (M m : ℕ) (samples : List ℤ) → Reading
+  decibels-of : (bits : ℕ) → Reading
 
--- what is read at n, by the tree's own definitions
-unfoldable pub read : Reading → ℕ → ℤ
-read (output-of M gains samples) n = output published M (λ _. gainOf gains) (signalOf samples) n
-read (line-of M k samples) n = line published M (signalOf samples) k n
-read (band-of M m samples) n = band published M (line published M (signalOf samples)) m n
+-- what the bench shows: a number, or a refusal
+pub data Shown : Type 0 where
+  number : ℤ → Shown
+  refusal : ℕ → Shown
+
+abbrev pub shown : Answer → Shown
+shown (accepted g) = number g
+shown (refused n) = refusal n
+
+-- what is read at n, by the tree's own definitions, and a gain, at any n, by the gain command's
+unfoldable pub read : Reading → ℕ → Shown
+read (output-of M gains samples) n = number (output published M (λ _. gainOf gains) (signalOf samples) n)
+read (line-of M k samples) n = number (line published M (signalOf samples) k n)
+read (band-of M m samples) n = number (band published M (line published M (signalOf samples)) m n)
+read (decibels-of bits) n = shown (answerTo (Decibels (ofBits binary32 bits)))
 
 -- a row of the bench's table: "313 at 0"
 pub record Row : Type 0 where
   pub reading : Reading
   pub at : ℕ
-  pub value : ℤ
+  pub value : Shown
 
 abbrev pub row : Reading → ℕ → ℤ → Row
-row r n v = record { reading = r; at = n; value = v }
+row r n v = record { reading = r; at = n; value = number v }

@@ -2,7 +2,7 @@
 use mathlib.Core.List.{List, [], _∷_, _++_, map}
 use Prim.Native.Nat.{ℕ}
 use lib.IntN.{ℤ, pos, negsuc}
-use Rattle.bench_readings.specs.Reading.{Reading, Row, row, output-of, line-of, band-of}
+use Rattle.bench_readings.specs.Reading.{Reading, Row, row, output-of, line-of, band-of, decibels-of}
 
 -- 100,000 then zeros
 abbrev hundred-thousand : List ℤ
@@ -41,4 +41,12 @@ table =
     -- "both 8,192: 8,000,000 gives 8,388,607 and -8,000,000 gives -8,388,608"
     row (output-of 2 (pos 8192 ∷ pos 8192 ∷ []) (pos 8000000 ∷ negsuc 7999999 ∷ [])) 9 (pos 8388607) ∷
     row (output-of 2 (pos 8192 ∷ pos 8192 ∷ []) (pos 8000000 ∷ negsuc 7999999 ∷ [])) 10 (negsuc 8388607) ∷
+    -- "0 dB 4,096; +0.5 4,339; -0.5 3,867; +6 8,173; -6 2,053; +12 16,306; -12 1,029", each f32 by its bits
+    row (decibels-of 0x0000_0000) 0 (pos 4096) ∷
+    row (decibels-of 0x3f00_0000) 0 (pos 4339) ∷
+    row (decibels-of 0xbf00_0000) 0 (pos 3867) ∷
+    row (decibels-of 0x40c0_0000) 0 (pos 8173) ∷
+    row (decibels-of 0xc0c0_0000) 0 (pos 2053) ∷
+    row (decibels-of 0x4140_0000) 0 (pos 16306) ∷
+    row (decibels-of 0xc140_0000) 0 (pos 1029) ∷
     []

@@ -1,0 +1,64 @@
+-- `course::draw` is safe and ends: the place counts up to the list's length. Assumes nothing.
+use mathlib.Core.Path.{_≡_, refl, _∙_}
+use Prim.Native.Nat.{_≤_, _-_}
+use native.Mathlib.Omega.{arith}
+use lib.ListN.{length, length-set}
+use Rattle.readings.proofs.course.draw.Statement.{statement}
+use Rattle.readings.proofs.course.draw.Tie as tie
+
+abbrev Inv-loop : tie.InvT-loop
+Inv-loop signal input₀ n₀ state₀ i₀ i-end input n state i = (length input ≡ length input₀) × (i ≤ i-end) × (i-end ≡ length input₀)
+
+abbrev μ-loop : tie.MeasureT-loop
+μ-loop signal input₀ n₀ state₀ i₀ i-end input n state i = i-end - i
+
+loop-holds : tie.Need-loop-holds Inv-loop μ-loop
+loop-holds c = (refl, omega arith, refl)
+
+next-requires : tie.Need-next-requires Inv-loop μ-loop
+next-requires c κs = tt
+
+sample-requires : tie.Need-sample-requires Inv-loop μ-loop
+sample-requires c κs = tt
+
+mul-t10 : tie.Need-mul-t10 Inv-loop μ-loop
+mul-t10 c = omega arith
+
+slice-set-from-input : tie.Need-slice-set-from-input Inv-loop μ-loop
+slice-set-from-input c = omega arith
+
+wrapping-add-usize-requires : tie.Need-wrapping-add-usize-requires Inv-loop μ-loop
+wrapping-add-usize-requires c κs = tt
+
+add-i : tie.Need-add-i Inv-loop μ-loop
+add-i c = omega arith
+
+loop-less : tie.Need-loop-less Inv-loop μ-loop
+loop-less c = omega arith
+
+loop-again : tie.Need-loop-again Inv-loop μ-loop
+loop-again c = (simp length-set (c .before .before .before .before .loop .inv .0), omega arith, refl)
+
+same-length : tie.Need-same-length Inv-loop μ-loop
+same-length c = c .before .loop .inv .0
+
+returns : tie.Need-returns Inv-loop μ-loop
+returns c = tt
+
+pub draw-spec : {M : Type 1} → statement M
+draw-spec =
+    tie.close
+    (tie.spec
+    Inv-loop
+    μ-loop
+    loop-holds
+    next-requires
+    sample-requires
+    mul-t10
+    slice-set-from-input
+    wrapping-add-usize-requires
+    add-i
+    loop-less
+    loop-again
+    same-length
+    returns)
