@@ -340,5 +340,5 @@ if __name__ == "__main__":
         for name in SIGNALS:
             course(M, name)
     for M in [2, 3, 8, 10]:
-        any_places(M, 0)
-        any_places(M, ring_length(M) - 1)
+        for position in [0, ring_length(M) - 1, ring_length(M)]:
+            any_places(M, position)

@@ -15,6 +15,7 @@ const PAIR: [i32; 2] = [1, -1];
 
 const BEFORE: [i32; 7] = [8388607, -8388608, 100000, -1, 7, 0, 16];
 
+// What is asked: the memory's length, its count and position, and what else is lent.
 fn asked(memory: &[i32], gains: &[i32], input: &[i32], output: &[i32]) {
     let n = front(2, memory);
     show::word(b"block memory");
@@ -49,6 +50,7 @@ fn attempt(
     show::count(changed(output, marked));
 }
 
+// A call, told on two lines: what is asked, and what came of it.
 fn shown(memory: &mut [i32], gains: &[i32], input: &[i32], output: &mut [i32]) {
     let mut kept = [0i32; 92162];
     let mut marked = [0i32; 4097];
@@ -230,6 +232,7 @@ fn with_faults(
     );
 }
 
+// A call on a used memory of two bands with these faults.
 fn faulty(faults: usize) {
     let mut memory = [0i32; 20];
     let mut gains = [4096i32; 3];

@@ -64,6 +64,7 @@ fn name(signal: Signal) {
     }
 }
 
+// Each gain is drawn; answers the generator's state afterwards.
 fn draw_gains(gains: &mut [i32], from: u64) -> u64 {
     let mut state = from;
     for i in 0..gains.len() {
@@ -73,6 +74,7 @@ fn draw_gains(gains: &mut [i32], from: u64) -> u64 {
     state
 }
 
+// Each sample is drawn.
 fn draw(signal: Signal, input: &mut [i32], from: Drawn) -> Drawn {
     let mut n = from.n;
     let mut state = from.state;
@@ -84,6 +86,7 @@ fn draw(signal: Signal, input: &mut [i32], from: Drawn) -> Drawn {
     Drawn { n: n, state: state }
 }
 
+// One call on a marked output: its answer, every output, and the memory afterwards.
 fn one(memory: &mut [i32], gains: &[i32], input: &[i32], output: &mut [i32]) {
     fill(output, MARK);
     show::blocked(block(memory, gains, input, output));
@@ -158,6 +161,7 @@ fn turn(memory: &mut [i32], bands: usize, samples: usize, signal: Signal, from: 
     )
 }
 
+// Blocks of every length of the list, the first sample of one right behind the last of the one before.
 fn turns(memory: &mut [i32], bands: usize, signal: Signal) {
     let mut from = Drawn {
         n: 0,
@@ -168,6 +172,7 @@ fn turns(memory: &mut [i32], bands: usize, signal: Signal) {
     }
 }
 
+// A course of one signal; the band count as prepare takes it, and as a count of gains.
 fn course(memory: &mut [i32], bands: i32, count: usize, signal: Signal) {
     fill(memory, MARK);
     show::word(b"course of");
@@ -186,24 +191,15 @@ fn signals(memory: &mut [i32], bands: i32, count: usize) {
     course(memory, bands, count, Signal::Telegraph);
 }
 
-pub fn two() {
-    let mut memory = [0i32; 20];
-    signals(&mut memory, 2, 2);
-}
-
-pub fn three() {
-    let mut memory = [0i32; 74];
-    signals(&mut memory, 3, 3);
-}
-
-pub fn eight() {
-    let mut memory = [0i32; 8066];
-    signals(&mut memory, 8, 8);
-}
-
-pub fn ten() {
-    let mut memory = [0i32; 41474];
-    signals(&mut memory, 10, 10);
+pub fn courses() {
+    let mut two = [0i32; 20];
+    signals(&mut two, 2, 2);
+    let mut three = [0i32; 74];
+    signals(&mut three, 3, 3);
+    let mut eight = [0i32; 8066];
+    signals(&mut eight, 8, 8);
+    let mut ten = [0i32; 41474];
+    signals(&mut ten, 10, 10);
 }
 
 fn one_of_front(
@@ -238,18 +234,20 @@ fn ends(memory: &mut [i32], bands: i32, count: usize, position: i32) {
     one_of_front(memory, &gains, count, &input, &mut output);
 }
 
-// From the first position and from the last.
+fn positions(memory: &mut [i32], bands: i32, count: usize, last: i32, beyond: i32) {
+    ends(memory, bands, count, 0);
+    ends(memory, bands, count, last);
+    ends(memory, bands, count, beyond);
+}
+
+// From the first position, from the last, and from the one beyond it, which is refused.
 pub fn any_places() {
     let mut two = [0i32; 20];
-    ends(&mut two, 2, 2, 0);
-    ends(&mut two, 2, 2, 17);
+    positions(&mut two, 2, 2, 17, 18);
     let mut three = [0i32; 74];
-    ends(&mut three, 3, 3, 0);
-    ends(&mut three, 3, 3, 35);
+    positions(&mut three, 3, 3, 35, 36);
     let mut eight = [0i32; 8066];
-    ends(&mut eight, 8, 8, 0);
-    ends(&mut eight, 8, 8, 1151);
+    positions(&mut eight, 8, 8, 1151, 1152);
     let mut ten = [0i32; 41474];
-    ends(&mut ten, 10, 10, 0);
-    ends(&mut ten, 10, 10, 4607);
+    positions(&mut ten, 10, 10, 4607, 4608);
 }

@@ -16,9 +16,6 @@ fn main() {
     blocks::gains();
     blocks::samples();
     blocks::all_faults();
-    course::two();
-    course::three();
-    course::eight();
-    course::ten();
+    course::courses();
     course::any_places();
 }
