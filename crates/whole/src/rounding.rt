@@ -10,10 +10,8 @@ pub fn nearest_100000(z: i64) -> i64
     requires { ⌜ natAbs z ≤ 2 ^ 62 ⌝ }
     ensures { λ r. ⌜ r ≡ nearest 100000 z ⌝ }
 {
-    if z < 0 {
-        return (z - 50000) / 100000;
-    }
-    (z + 50000) / 100000
+    let half = if z < 0 { -50000 } else { 50000 };
+    (z + half) / 100000
 }
 
 // A gain sum over unity.
@@ -21,8 +19,6 @@ pub fn nearest_4096(z: i64) -> i64
     requires { ⌜ natAbs z ≤ 2 ^ 62 ⌝ }
     ensures { λ r. ⌜ r ≡ nearest 4096 z ⌝ }
 {
-    if z < 0 {
-        return (z - 2048) / 4096;
-    }
-    (z + 2048) / 4096
+    let half = if z < 0 { -2048 } else { 2048 };
+    (z + half) / 4096
 }
