@@ -4,14 +4,16 @@ use mathlib.Core.List.{List, [], _∷_}
 use mathlib.Core.Logic.{⊎-elim}
 use types.Run.{OneOf}
 use denote.Enum.Declared.{tagOf}
-use Prim.Native.Nat.{ℕ, _-_, _≤_, _<_}
+use Prim.Native.Nat.{ℕ, _-_, _*_, _≤_, _<_}
 use native.Mathlib.Omega.{arith}
 use borrow.Author.Tests.{lt-ltb, le-ltb}
 use lib.ListN.{length, take, drop, length-drop}
 use lib.Seq.{take-all}
 use lib.IntN.{ℤ}
 use Rattle.wave.specs.Answer.{Answer, accepted, refused}
-use Rattle.wave.specs.Block.{blockTo, storedAnswer}
+use mathlib.Core.Bool.{Bool, true, false, cond}
+use lib.Dec.{eqb, ltb}
+use Rattle.wave.specs.Block.{allInRange, bytesOf, blockTo, storedAnswer}
 use Rattle.wave.proofs.block.Stored as stored
 use Rattle.wave.specs.declared.block.Stored.{Stored}
 use Rattle.wave.specs.declared.block.Stored.the-variants.{Bytes, WrongLength, OutOfRange}
@@ -51,3 +53,26 @@ pub none-stored : (r : Stored) → OneOf (1 ∷ 2 ∷ []) (tagOf stored.the-type
 none-stored (Bytes n) t = absurd (⊎-elim (λ (z : _≡_ {A = ℕ} 0 1). omega arith) (λ (z : _≡_ {A = ℕ} 0 2). omega arith) t)
 none-stored WrongLength t = refl
 none-stored OutOfRange t = refl
+
+-- what is stored is within the buffer
+stored-within : (samples : List ℤ) (stored : List ℕ) → countOf (blockTo samples stored .0) ≤ length stored
+unfolding blockTo
+stored-within samples stored = by (eqb (length stored) (3 * length samples)) (allInRange samples)
+  where
+    by : (a b : Bool) → countOf (cond {A = Answer ℕ × List ℕ} a (cond b (accepted (length stored), bytesOf samples) (refused 19, stored)) (refused 18, stored) .0) ≤ length stored
+    by true true = omega arith
+    by true false = omega arith
+    by false b = omega arith
+
+pub count-within : (memory gains : List ℤ) (format : Format) (bytes : List ℕ) (input output : List ℤ) (skipped : ℕ) (stored : List ℕ) →
+    equaliseOf memory gains format bytes input output skipped stored .count ≤ length stored
+unfolding equaliseOf
+count-within memory gains format bytes input output skipped stored =
+    by (blockOf memory gains (samplesFrom (length input) format bytes) output .output)
+  where
+    by : (o : List ℤ) → storedOf o skipped stored .0 ≤ length stored
+    by o = pick (ltb (length o) skipped)
+      where
+        pick : (b : Bool) → cond {A = ℕ × List ℕ} b (0, stored) (countOf (blockTo (drop skipped o) stored .0), blockTo (drop skipped o) stored .1) .0 ≤ length stored
+        pick true = omega arith
+        pick false = stored-within (drop skipped o) stored

@@ -12,6 +12,7 @@ use Rattle.wave.specs.Block.{sizeOf}
 use Rattle.wave.specs.declared.format.Format.{Format}
 use Rattle.wave.specs.declared.format.Format.the-variants.{Bits16, Bits24}
 use Rattle.eqfile.specs.Turn.{Block, late, longest, fedInAll, wantedOf, turnOf, Planned}
+use Rattle.eqfile.specs.declared.plan.Turn as declared
 
 pub few-bytes : (format : Format) → (2 ≤ sizeOf format) × (sizeOf format ≤ 3)
 few-bytes Bits16 = (omega arith, omega arith)
@@ -45,4 +46,41 @@ turn-is size samples at read all left fed early skipped wanted a l f e s w =
       wanted-is = w ∙ ap (λ (k : ℕ). wantedOf size samples at read k) fed-is;
       skipped-is = skipped-is;
       written-is = ap₂ (λ (u v : ℕ). 3 * (u - v)) fed-is skipped-is;
+    }
+
+-- ---- what a caller's buffers have to hold
+
+pub record Bounds (samples at : ℕ) (t : declared.Turn) : Type 0 where
+  pub fed-most : t .fed ≤ 4096
+  pub fed-left : t .fed ≤ fedInAll samples - at
+  pub fed-some : at < fedInAll samples → 0 < t .fed
+  pub wanted-most : t .wanted ≤ 3 * t .fed
+  pub skipped-most : t .skipped ≤ t .fed
+  pub written-most : t .written ≤ 12288
+
+wanted-few : (format : Format) (samples at read fed : ℕ) → wantedOf (sizeOf format) samples at read fed ≤ 3 * fed
+unfolding wantedOf
+wanted-few format samples at read fed = by (eqb read (sizeOf format * min at samples))
+  where
+    by : (b : Bool) → cond b (sizeOf format * min fed (samples - at)) 0 ≤ 3 * fed
+    by true =
+        let l : sizeOf format * min fed (samples - at) ≤ 3 * min fed (samples - at) = mul-le-mul-right (min fed (samples - at)) (few-bytes format .1) in
+        omega arith
+    by false = omega arith
+
+pub bounds : (format : Format) (samples at read : ℕ) (t : declared.Turn) → Planned (turnOf (sizeOf format) samples at read) t → Bounds samples at t
+unfolding turnOf
+bounds format samples at read t p =
+    let fed = min longest (fedInAll samples - at) in
+    let f : t .fed ≡ fed = p .fed-is in
+    let w : t .wanted ≡ wantedOf (sizeOf format) samples at read fed = p .wanted-is in
+    let s : t .skipped ≡ min fed (late - at) = p .skipped-is in
+    let o : t .written ≡ 3 * (fed - min fed (late - at)) = p .written-is in
+    record {
+      fed-most = omega arith;
+      fed-left = omega arith;
+      fed-some = λ h. omega arith;
+      wanted-most = omega (arith, wanted-few format samples at read fed);
+      skipped-most = omega arith;
+      written-most = omega arith;
     }

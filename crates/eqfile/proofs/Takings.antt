@@ -1,6 +1,8 @@
 -- One more argument. Assumes nothing.
 use mathlib.Core.Path.{_≡_, refl, ap, _∙_}
+use mathlib.Core.Bool.{Bool, true, false, cond}
 use mathlib.Core.List.{List}
+use lib.Dec.{eqb}
 use Prim.Native.Nat.{ℕ, _+_, _≤_, _<_}
 use native.Mathlib.Omega.{arith}
 use borrow.Author.Tests.{le-leb, lt-leb, ne-eqb}
@@ -29,3 +31,12 @@ module _ (text : List ℕ) (gains : List ℤ) where
 
 pub no-front : (n : ℕ) → (n ≡ 8 → ⊥) → 0 ≡ frontLength (accepted n)
 no-front n h = rw (ne-eqb n 8 h)
+
+-- the front is never longer than what the reader judges
+pub front-few : (a : Answer ℕ) → frontLength a ≤ 4096
+front-few (accepted n) = by (eqb n 8)
+  where
+    by : (b : Bool) → cond b 4096 0 ≤ 4096
+    by true = omega arith
+    by false = omega arith
+front-few (refused k) = omega arith

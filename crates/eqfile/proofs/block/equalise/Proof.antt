@@ -11,11 +11,6 @@ use Rattle.eqfile.proofs.Blocks.{nothing-stored, outputs-stored, none-s
 use borrow.Author.Needs.{needs}
 use Rattle.eqfile.proofs.block.equalise.Statement.{statement}
 use Rattle.eqfile.proofs.block.equalise.Tie as tie
-use Rattle.eqfile.proofs.block.equalise.Reads as reads
-use Rattle.eqfile.proofs.block.equalise.Lts as lts
-use Rattle.eqfile.proofs.data.samples_from.Reads as samples-from-reads
-use Rattle.octave.proofs.block.block.Reads as block-reads
-use Rattle.wave.proofs.samples_to_bytes.Reads as samples-to-bytes-reads
 
 samples-from-requires : tie.Need-samples-from-requires
 samples-from-requires c κs = search needs

@@ -5,11 +5,6 @@ use Rattle.eqfile.proofs.Copies.{nothing-there, part-long, parts-alike,
 use borrow.Author.Needs.{needs}
 use Rattle.eqfile.proofs.data.carry.Statement.{statement}
 use Rattle.eqfile.proofs.data.carry.Tie as tie
-use Rattle.eqfile.proofs.data.carry.Reads as reads
-use Rattle.eqfile.proofs.data.carry.Lts as lts
-use Rattle.eqfile.proofs.data.copy.Reads as copy-reads
-use Rattle.eqfile.proofs.small.least.Reads as least-reads
-use Rattle.eqfile.proofs.small.left.Reads as left-reads
 
 left-requires : tie.Need-left-requires
 left-requires c κs = search needs

@@ -6,8 +6,6 @@ use lib.ListN.{length}
 use Rattle.eqfile.proofs.Copies.{Copying, copying-turn, copied}
 use Rattle.eqfile.proofs.data.copy.Statement.{statement}
 use Rattle.eqfile.proofs.data.copy.Tie as tie
-use Rattle.eqfile.proofs.data.copy.Reads as reads
-use Rattle.eqfile.proofs.data.copy.Lts as lts
 
 abbrev Inv-loop : tie.InvT-loop
 Inv-loop from to₀ i₀ to i = Copying from to₀ to i

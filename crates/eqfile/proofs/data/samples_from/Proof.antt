@@ -8,12 +8,6 @@ use Rattle.eqfile.proofs.Wholes.{end-within, part-fits, taken, joined}
 use borrow.Author.Needs.{needs}
 use Rattle.eqfile.proofs.data.samples_from.Statement.{statement}
 use Rattle.eqfile.proofs.data.samples_from.Tie as tie
-use Rattle.eqfile.proofs.data.samples_from.Reads as reads
-use Rattle.eqfile.proofs.data.samples_from.Lts as lts
-use Rattle.eqfile.proofs.data.clear.Reads as clear-reads
-use Rattle.eqfile.proofs.small.least.Reads as least-reads
-use Rattle.eqfile.proofs.small.size.Reads as size-reads
-use Rattle.wave.proofs.bytes_to_samples.Reads as bytes-to-samples-reads
 
 size-requires : tie.Need-size-requires
 size-requires c κs = search needs

@@ -5,9 +5,6 @@ use Rattle.eqfile.proofs.Texts.{one-digit, two-digits, no-digits}
 use borrow.Author.Needs.{needs}
 use Rattle.eqfile.proofs.digits.digits_of.Statement.{statement}
 use Rattle.eqfile.proofs.digits.digits_of.Tie as tie
-use Rattle.eqfile.proofs.digits.digits_of.Reads as reads
-use Rattle.eqfile.proofs.digits.digits_of.Lts as lts
-use Rattle.eqfile.proofs.digits.up_to_24.Reads as up-to-24-reads
 
 shared-slice-read-up-to-24 : tie.Need-shared-slice-read-up-to-24
 shared-slice-read-up-to-24 c = search needs

@@ -2,8 +2,6 @@
 use Rattle.eqfile.proofs.Texts.{below-digits, from-digits}
 use Rattle.eqfile.proofs.digits.is_digit.Statement.{statement}
 use Rattle.eqfile.proofs.digits.is_digit.Tie as tie
-use Rattle.eqfile.proofs.digits.is_digit.Reads as reads
-use Rattle.eqfile.proofs.digits.is_digit.Lts as lts
 
 returns : tie.Need-returns
 returns c = below-digits (c .before .args .b) (c .if1 .taken)

@@ -9,10 +9,6 @@ use Rattle.eqfile.proofs.Texts.{digit, tens-wrong, ones-wrong, small, l
 use borrow.Author.Needs.{needs}
 use Rattle.eqfile.proofs.digits.up_to_24.Statement.{statement}
 use Rattle.eqfile.proofs.digits.up_to_24.Tie as tie
-use Rattle.eqfile.proofs.digits.up_to_24.Reads as reads
-use Rattle.eqfile.proofs.digits.up_to_24.Lts as lts
-use Rattle.eqfile.proofs.digits.is_digit.Reads as is-digit-reads
-use Rattle.eqfile.proofs.digits.wide.Reads as wide-reads
 
 -- both bytes are digits
 tens : (c : tie.Else1) → isDigit (c .before .before .args .tens) ≡ true

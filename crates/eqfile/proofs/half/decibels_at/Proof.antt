@@ -11,8 +11,6 @@ use Rattle.gain.proofs.Every.{at}
 use borrow.Author.Needs.{needs}
 use Rattle.eqfile.proofs.half.decibels_at.Statement.{statement}
 use Rattle.eqfile.proofs.half.decibels_at.Tie as tie
-use Rattle.eqfile.proofs.half.decibels_at.Reads as reads
-use Rattle.eqfile.proofs.half.decibels_at.Lts as lts
 
 same : ℤ → ℤ → Bool
 same (pos a) (pos b) = eqb a b

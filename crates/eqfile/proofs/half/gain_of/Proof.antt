@@ -11,11 +11,6 @@ use Rattle.eqfile.proofs.Gains.{place-inside, no-argument, argument-gai
 use borrow.Author.Needs.{needs}
 use Rattle.eqfile.proofs.half.gain_of.Statement.{statement}
 use Rattle.eqfile.proofs.half.gain_of.Tie as tie
-use Rattle.eqfile.proofs.half.gain_of.Reads as reads
-use Rattle.eqfile.proofs.half.gain_of.Lts as lts
-use Rattle.eqfile.proofs.half.decibels_at.Reads as decibels-at-reads
-use Rattle.eqfile.proofs.half.place_of.Reads as place-of-reads
-use Rattle.gain.proofs.gain.Reads as gain-reads
 
 -- the place that the text stands for
 placed : (c : tie.After-known-told) → accepted (pos (c .before .i .given .0 .0) -ℤ pos 24) ≡ halfDecibels (now (c .before .before .before .before .before .args .text))

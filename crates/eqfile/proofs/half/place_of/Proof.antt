@@ -7,9 +7,6 @@ use Rattle.eqfile.proofs.Texts.{nothing, minus-refused, minus-small, mi
 use borrow.Author.Needs.{needs}
 use Rattle.eqfile.proofs.half.place_of.Statement.{statement}
 use Rattle.eqfile.proofs.half.place_of.Tie as tie
-use Rattle.eqfile.proofs.half.place_of.Reads as reads
-use Rattle.eqfile.proofs.half.place_of.Lts as lts
-use Rattle.eqfile.proofs.digits.digits_of.Reads as digits-of-reads
 
 returns : tie.Need-returns
 returns c = nothing (now (c .before .before .args .text)) (c .if1 .taken)

@@ -9,10 +9,6 @@ use Rattle.eqfile.proofs.Orders.{arguments-refused, not-eight, eight}
 use borrow.Author.Needs.{needs}
 use Rattle.eqfile.proofs.order.begin.Statement.{statement}
 use Rattle.eqfile.proofs.order.begin.Tie as tie
-use Rattle.eqfile.proofs.order.begin.Reads as reads
-use Rattle.eqfile.proofs.order.begin.Lts as lts
-use Rattle.eqfile.proofs.order.plan.Reads as plan-reads
-use Rattle.wave.proofs.read.Reads as read-reads
 
 enum-known-arguments : tie.Need-enum-known-arguments
 enum-known-arguments c = search needs

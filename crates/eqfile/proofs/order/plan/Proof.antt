@@ -8,9 +8,6 @@ use Rattle.eqfile.proofs.Orders.{reader-refuses, too-long, to-be-writte
 use borrow.Author.Needs.{needs}
 use Rattle.eqfile.proofs.order.plan.Statement.{statement}
 use Rattle.eqfile.proofs.order.plan.Tie as tie
-use Rattle.eqfile.proofs.order.plan.Reads as reads
-use Rattle.eqfile.proofs.order.plan.Lts as lts
-use Rattle.eqfile.proofs.small.size.Reads as size-reads
 
 enum-known-reading : tie.Need-enum-known-reading
 enum-known-reading c = search needs

@@ -4,12 +4,6 @@ use Rattle.eqfile.proofs.Plans.{turn-is}
 use borrow.Author.Needs.{needs}
 use Rattle.eqfile.proofs.plan.next_turn.Statement.{statement}
 use Rattle.eqfile.proofs.plan.next_turn.Tie as tie
-use Rattle.eqfile.proofs.plan.next_turn.Reads as reads
-use Rattle.eqfile.proofs.plan.next_turn.Lts as lts
-use Rattle.eqfile.proofs.plan.fed_in_all.Reads as fed-in-all-reads
-use Rattle.eqfile.proofs.plan.wanted.Reads as wanted-reads
-use Rattle.eqfile.proofs.small.least.Reads as least-reads
-use Rattle.eqfile.proofs.small.left.Reads as left-reads
 
 fed-in-all-requires : tie.Need-fed-in-all-requires
 fed-in-all-requires c κs = search needs

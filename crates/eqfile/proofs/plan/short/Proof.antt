@@ -6,10 +6,6 @@ use Rattle.eqfile.proofs.Plans.{product-fits}
 use borrow.Author.Needs.{needs}
 use Rattle.eqfile.proofs.plan.short.Statement.{statement}
 use Rattle.eqfile.proofs.plan.short.Tie as tie
-use Rattle.eqfile.proofs.plan.short.Reads as reads
-use Rattle.eqfile.proofs.plan.short.Lts as lts
-use Rattle.eqfile.proofs.small.left.Reads as left-reads
-use Rattle.eqfile.proofs.small.size.Reads as size-reads
 
 size-requires : tie.Need-size-requires
 size-requires c κs = search needs

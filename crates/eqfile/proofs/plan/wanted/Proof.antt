@@ -5,11 +5,6 @@ use Rattle.eqfile.proofs.Plans.{product-fits, ended, not-ended}
 use borrow.Author.Needs.{needs}
 use Rattle.eqfile.proofs.plan.wanted.Statement.{statement}
 use Rattle.eqfile.proofs.plan.wanted.Tie as tie
-use Rattle.eqfile.proofs.plan.wanted.Reads as reads
-use Rattle.eqfile.proofs.plan.wanted.Lts as lts
-use Rattle.eqfile.proofs.small.least.Reads as least-reads
-use Rattle.eqfile.proofs.small.left.Reads as left-reads
-use Rattle.eqfile.proofs.small.size.Reads as size-reads
 
 size-requires : tie.Need-size-requires
 size-requires c κs = search needs

@@ -5,8 +5,6 @@ use Rattle.wave.specs.Block.{sizeOf}
 use borrow.Author.Needs.{needs}
 use Rattle.eqfile.proofs.small.size.Statement.{statement}
 use Rattle.eqfile.proofs.small.size.Tie as tie
-use Rattle.eqfile.proofs.small.size.Reads as reads
-use Rattle.eqfile.proofs.small.size.Lts as lts
 
 enum-told : tie.Need-enum-told
 enum-told c = search needs

@@ -15,9 +15,6 @@ use Rattle.eqfile.proofs.Takings.{after-refused, no-place, wrong-text, 
 use borrow.Author.Needs.{needs}
 use Rattle.eqfile.proofs.taking.another.Statement.{statement}
 use Rattle.eqfile.proofs.taking.another.Tie as tie
-use Rattle.eqfile.proofs.taking.another.Reads as reads
-use Rattle.eqfile.proofs.taking.another.Lts as lts
-use Rattle.eqfile.proofs.half.gain_of.Reads as gain-of-reads
 
 -- the arguments so far, taken apart
 from : (text : List ℕ) (gains : List ℤ) (a b : Arguments) → a ≡ b → spec.another (spec.argumentsAnswer b) text gains ≡ spec.another (spec.argumentsAnswer a) text gains

@@ -6,8 +6,6 @@ use Rattle.eqfile.proofs.Takings.{no-front}
 use borrow.Author.Needs.{needs}
 use Rattle.eqfile.proofs.taking.front_length.Statement.{statement}
 use Rattle.eqfile.proofs.taking.front_length.Tie as tie
-use Rattle.eqfile.proofs.taking.front_length.Reads as reads
-use Rattle.eqfile.proofs.taking.front_length.Lts as lts
 
 enum-known-arguments : tie.Need-enum-known-arguments
 enum-known-arguments c = search needs
