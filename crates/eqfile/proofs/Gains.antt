@@ -73,3 +73,12 @@ argument-small s g = by (halfDecibels s) (half-near s)
     by : (a : Answer ℤ) → Near a → accepted g ≡ gainFor a → mag g < 2147483648
     by (accepted n) l e = let r : g ≡ pos (entry n) = cc in rw r (omega (arith, entry-small n l))
     by (refused k) l e = let z : _≡_ {A = ℕ} 0 1 = cc in absurd (omega arith)
+
+-- an argument is refused with 30 alone
+pub refused-30 : (s : List ℕ) (k : ℕ) → argumentOf s ≡ refused k → k ≡ 30
+unfolding argumentOf
+refused-30 s k = by (halfDecibels s) (half-near s)
+  where
+    by : (a : Answer ℤ) → Near a → gainFor a ≡ refused k → k ≡ 30
+    by (accepted n) l e = let z : _≡_ {A = ℕ} 0 1 = cc in absurd (omega arith)
+    by (refused j) l e = let r : j ≡ k = cc in sym r ∙ l

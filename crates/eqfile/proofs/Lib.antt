@@ -6,3 +6,7 @@ pub mod Plans
 pub mod Copies
 pub mod Wholes
 pub mod Blocks
+pub mod Written
+pub mod Eight
+pub mod NeverMore
+pub mod OneAnswer

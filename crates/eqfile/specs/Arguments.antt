@@ -21,6 +21,22 @@ unfolding argumentOf
 another (accepted n) text gains = cond (leb (length gains) n) (refused 30, gains) (put n (argumentOf text) gains)
 another (refused k) text gains = (refused 30, gains)
 
+-- the gains of some arguments, lowest first; 30 if one is refused
+abbrev pub with : Answer ℤ → Answer (List ℤ) → Answer (List ℤ)
+with (accepted g) (accepted gs) = accepted (g ∷ gs)
+with (accepted g) (refused k) = refused 30
+with (refused k) gs = refused 30
+
+unfoldable pub eachGain : List (List ℕ) → Answer (List ℤ)
+unfolding argumentOf
+eachGain [] = accepted []
+eachGain (text ∷ texts) = with (argumentOf text) (eachGain texts)
+
+-- "30 arguments not eight whole numbers from -24 to 24"
+unfoldable pub argumentsOf : List (List ℕ) → Answer (List ℤ)
+unfolding eachGain
+argumentsOf texts = cond (eqb (length texts) 8) (eachGain texts) (refused 30)
+
 -- all arguments, one after the other
 unfoldable pub allOf : Answer ℕ × List ℤ → List (List ℕ) → Answer ℕ × List ℤ
 allOf so-far [] = so-far
