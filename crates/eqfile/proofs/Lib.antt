@@ -1,0 +1,12 @@
+pub mod Texts
+pub mod Gains
+pub mod Takings
+pub mod Orders
+pub mod Plans
+pub mod Copies
+pub mod Wholes
+pub mod Blocks
+pub mod Written
+pub mod Eight
+pub mod NeverMore
+pub mod OneAnswer

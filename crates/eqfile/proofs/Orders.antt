@@ -1,0 +1,68 @@
+-- The checks in their order. Assumes nothing.
+use mathlib.Core.Path.{_≡_, refl, sym, ap, _∙_}
+use mathlib.Core.Bool.{Bool, true, false, cond}
+use lib.Dec.{eqb, ltb}
+use mathlib.Core.List.{List}
+use Prim.Native.Nat.{ℕ, _+_, _*_, _/_, _≤_, _<_}
+use native.Mathlib.Omega.{arith}
+use borrow.Author.Tests.{lt-ltb, le-ltb, ltb-false, eq-eqb, ne-eqb}
+use Rattle.wave.specs.Answer.{Answer, accepted, refused}
+use Rattle.wave.specs.Block.{sizeOf}
+use Rattle.wave.specs.Values.{bitsOf, blockSize}
+use Rattle.wave.specs.Walk.{Found, readOf, readAnswer}
+use Rattle.wave.specs.declared.format.Format.{Format}
+use Rattle.wave.specs.declared.reader.Reading.the-variants.{Accepted}
+use Rattle.eqfile.specs.Start.{Plan, planFor, planOf, startOf}
+
+pub reader-refuses : (k : ℕ) → refused k ≡ planOf (refused k)
+unfolding planOf
+reader-refuses k = refl
+
+module _ (rate : ℕ) (format : Format) (size start block : ℕ) (is : block ≡ sizeOf format) where
+  pub too-long : 4294967259 < 3 * (size / block) → refused 26 ≡ planOf (readAnswer (Accepted rate format size start))
+  unfolding planOf
+  too-long h = rw (lt-ltb 4294967259 (3 * (size / sizeOf format)) (rw is at h))
+
+  pub to-be-written : 3 * (size / block) ≤ 4294967259 →
+      accepted (record { rate = rate; bits = bitsOf format; samples = size / block; start = start }) ≡ planOf (readAnswer (Accepted rate format size start))
+  unfolding planOf
+  to-be-written h = rw (is, le-ltb 4294967259 (3 * (size / sizeOf format)) (rw is at h))
+
+pub arguments-refused : (k : ℕ) (front : List ℕ) → refused 30 ≡ startOf (refused k) front
+unfolding startOf
+arguments-refused k front = refl
+
+pub not-eight : (n : ℕ) (front : List ℕ) → (n ≡ 8 → ⊥) → refused 30 ≡ startOf (accepted n) front
+unfolding startOf
+not-eight n front h = rw (ne-eqb n 8 h)
+
+pub eight : (n : ℕ) (front : List ℕ) (a : Answer Plan) → n ≡ 8 → a ≡ planOf (readOf front) → a ≡ startOf (accepted n) front
+unfolding startOf
+eight n front a h e = rw (eq-eqb n 8 h, e)
+
+-- a run that starts has samples that can be written
+abbrev pub Writable : Answer Plan → Type 0
+Writable (accepted p) = p .samples ≤ 1431655753
+Writable (refused k) = Unit {0}
+
+writable-plan : (f : Found) → Writable (planFor f)
+writable-plan f = by (ltb 4294967259 (3 * (f .size / blockSize (f .bits)))) refl
+  where
+    by : (b : Bool) → ltb 4294967259 (3 * (f .size / blockSize (f .bits))) ≡ b →
+        Writable (cond b (refused 26) (accepted (record { rate = f .rate; bits = f .bits; samples = f .size / blockSize (f .bits); start = f .start })))
+    by true e = tt
+    by false e = let h = ltb-false 4294967259 (3 * (f .size / blockSize (f .bits))) e in omega arith
+
+writable-read : (a : Answer Found) → Writable (planOf a)
+unfolding planOf
+writable-read (accepted f) = writable-plan f
+writable-read (refused k) = tt
+
+pub writable : (a : Answer ℕ) (front : List ℕ) → Writable (startOf a front)
+unfolding startOf
+writable (refused k) front = tt
+writable (accepted n) front = by (eqb n 8)
+  where
+    by : (b : Bool) → Writable (cond b (planOf (readOf front)) (refused 30))
+    by true = writable-read (readOf front)
+    by false = tt

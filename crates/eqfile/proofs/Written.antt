@@ -1,0 +1,83 @@
+-- The samples written, 01, The program: "a 24-bit WAVE whose sample n is output n + 1,143; zeros follow the input". Over any block
+-- calls, however the samples were cut. Assumes nothing.
+use mathlib.Core.Path.{_≡_, refl, sym, ap, ap₂, subst, _∙_, fun-ext}
+use mathlib.Core.Bool.{true, false}
+use mathlib.Core.List.{List, [], _∷_, _++_}
+use Prim.Native.Nat.{ℕ, zero, suc, _+_, _-_, _*_, _≤_, _<_}
+use native.Mathlib.Decide.{decLt}
+use native.Mathlib.Nat.{add-comm}
+use native.Mathlib.Omega.{arith}
+use lib.ListN.{length, getD, drop, replicate, length-append, length-replicate, List·getD-append, List·getD-eq-default}
+use lib.Seq.{getD-drop, getD-append-add}
+use lib.IntN.{ℤ, pos, _*ℤ_}
+use lib.Signed.{_≤ℤ_}
+use borrow.Author.Tests.{le-leb}
+use Rattle.whole.specs.Limit.{limit, least24, most24}
+use Rattle.whole.specs.Nearest.{nearest}
+use Rattle.whole.proofs.Sums.{sum-ext}
+use Rattle.whole.proofs.Nearest.{nearest-exact}
+use Rattle.whole.proofs.Limit.{limit-id}
+use Rattle.tree.specs.Prototype.{published}
+use Rattle.tree.specs.Signal.{Signal, back, signalOf, gainOf}
+use Rattle.tree.specs.Tree.{line, heldBack, gainSum, output}
+use Rattle.tree.proofs.EqualGains.{equal-gains}
+use Rattle.octave.specs.Run.{outOf}
+use Rattle.octave.specs.Memory.{prepared}
+use Rattle.octave.specs.History.{Call, played, AllAccepted, joined, carried}
+use Rattle.octave.proofs.WholeHistory.{output-at, carried-here, carried-later}
+use Rattle.eqfile.specs.Turn.{late}
+
+-- every call has the same gains
+unfoldable pub SameGains : List ℤ → List Call → Type 0
+SameGains gains [] = Unit {0}
+SameGains gains (c ∷ cs) = (c .gains ≡ gains) × SameGains gains cs
+
+-- the samples of the file and the zeros that follow
+abbrev pub followed : List ℤ → List ℤ
+followed xs = xs ++ replicate late (pos 0)
+
+-- ---- gains and zeros
+
+carried-same : (gains : List ℤ) (cs : List Call) → SameGains gains cs → (n m : ℕ) → n < length (joined cs) → carried cs n m ≡ gainOf gains m
+unfolding SameGains joined
+carried-same gains [] s n m h = absurd (omega arith)
+carried-same gains (c ∷ cs) s n m h = by (decLt n (length (c .input))) (carried-same gains cs (s .1) (n - length (c .input)) m)
+  where
+    by : Dec (n < length (c .input)) → (n - length (c .input) < length (joined cs) → carried cs (n - length (c .input)) m ≡ gainOf gains m) → carried (c ∷ cs) n m ≡ gainOf gains m
+    by (yes l) rest = carried-here c cs n m l ∙ ap (λ (g : List ℤ). gainOf g m) (s .0)
+    by (no l) rest = carried-later c cs n m (omega arith) ∙ rest (omega (arith, length-append (c .input) (joined cs)))
+
+-- zeros that follow are what the signal has anyhow
+zeros-after : (xs : List ℤ) (k n : ℕ) → signalOf (xs ++ replicate k (pos 0)) n ≡ signalOf xs n
+zeros-after [] zero n = refl
+zeros-after [] (suc k) zero = refl
+zeros-after [] (suc k) (suc n) = zeros-after [] k n
+zeros-after (x ∷ xs) k zero = refl
+zeros-after (x ∷ xs) k (suc n) = zeros-after xs k n
+
+gains-at : (g h : ℕ → ℕ → ℤ) (x : Signal) (n : ℕ) → ((m : ℕ) → g n m ≡ h n m) → output published 8 g x n ≡ output published 8 h x n
+unfolding output gainSum
+gains-at g h x n e = ap outOf (sum-ext 8 (λ i _. ap (λ (z : ℤ). z *ℤ heldBack published 8 (line published 8 x) (suc i) n) (e (suc i))))
+
+-- ---- the theorem
+
+module _ (gains xs : List ℤ) (cs : List Call) (all : AllAccepted (prepared 8) cs) (same : SameGains gains cs) (fed : joined cs ≡ followed xs) where
+  -- sample n written is output n + 1,143 for the samples read
+  pub written-is : (n : ℕ) → n < length xs → getD (drop late (played (prepared 8) cs .output)) n (pos 0) ≡ output published 8 (λ _. gainOf gains) (signalOf xs) (n + late)
+  written-is n h =
+      let long : length (joined cs) ≡ length xs + late = ap length fed ∙ length-append xs (replicate late (pos 0)) ∙ ap (λ (k : ℕ). length xs + k) (length-replicate late (pos 0)) in
+      getD-drop late (played (prepared 8) cs .output) n (pos 0) ∙ output-at 8 (omega arith) (omega arith) cs all (late + n) (omega arith) ∙
+      gains-at (carried cs) (λ _. gainOf gains) (signalOf (joined cs)) (late + n) (λ m. carried-same gains cs same (late + n) m (omega arith)) ∙
+      ap (λ (x : Signal). output published 8 (λ _. gainOf gains) x (late + n)) (fun-ext (λ k. ap (λ (l : List ℤ). signalOf l k) fed ∙ zeros-after xs late k)) ∙
+      ap (output published 8 (λ _. gainOf gains) (signalOf xs)) (add-comm late n)
+
+  -- gains of 4,096 give every sample back
+  pub unity-gives-back : ((m : ℕ) → 1 ≤ m → m ≤ 8 → gainOf gains m ≡ pos 4096) → (n : ℕ) → n < length xs →
+      least24 ≤ℤ signalOf xs n → signalOf xs n ≤ℤ most24 → getD (drop late (played (prepared 8) cs .output)) n (pos 0) ≡ getD xs n (pos 0)
+  unity-gives-back unity n h lo hi =
+      written-is n h ∙ equal-gains published 8 (pos 4096) (λ _. gainOf gains) (signalOf xs) (n + late) (omega arith) unity ∙
+      ap (λ (z : ℤ). limit least24 most24 (nearest 4096 (pos 4096 *ℤ z))) (delayed n) ∙
+      ap (limit least24 most24) (nearest-exact 4096 (omega arith) (signalOf xs n)) ∙ limit-id least24 most24 (signalOf xs n) lo hi
+    where
+      delayed : (n : ℕ) → back (signalOf xs) (n + late) late ≡ signalOf xs n
+      delayed n = rw (le-leb late (n + late) (omega arith)) (ap (signalOf xs) (omega arith))

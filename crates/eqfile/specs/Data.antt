@@ -1,0 +1,15 @@
+-- Bytes to samples, 01, The program: "If data ends early, each sample not wholly there is 0".
+use mathlib.Core.List.{List, _++_}
+use Prim.Native.Nat.{ℕ, _-_, _/_, min}
+use lib.ListN.{length, take, drop, replicate}
+use lib.IntN.{ℤ, pos}
+use Rattle.wave.specs.Block.{sizeOf, samplesOf}
+use Rattle.wave.specs.declared.format.Format.{Format}
+
+-- how many data bytes the front holds from a place on that go into a block's bytes, and those bytes afterwards
+unfoldable pub carryOf : List ℕ → ℕ → List ℕ → ℕ × List ℕ
+carryOf front from bytes = let n = min (length front - from) (length bytes) in (n, take n (drop from front) ++ drop n bytes)
+
+-- n samples: those whose bytes are all there, and zeros
+unfoldable pub samplesFrom : ℕ → Format → List ℕ → List ℤ
+samplesFrom n format bytes = let k = min (length bytes / sizeOf format) n in samplesOf k format bytes ++ replicate (n - k) (pos 0)

@@ -1,0 +1,7 @@
+pub mod Argument
+pub mod Arguments
+pub mod Start
+pub mod Turn
+pub mod Data
+pub mod Equalise
+pub mod Code

@@ -1,0 +1,52 @@
+-- 01, Refusal numbers, the row "program": "30 ..; then the reader's; then 26 for the length to be written".
+use mathlib.Core.Bool.{cond}
+use mathlib.Core.List.{List}
+use Prim.Native.Nat.{ℕ, _*_, _/_}
+use lib.Dec.{eqb, ltb}
+use Rattle.wave.specs.Answer.{Answer, accepted, refused}
+use Rattle.wave.specs.Values.{bitsOf, blockSize}
+use Rattle.wave.specs.Walk.{Found, readOf}
+use Rattle.eqfile.specs.declared.order.Refusal.{Refusal}
+use Rattle.eqfile.specs.declared.order.Refusal.the-variants as refusal
+use Rattle.eqfile.specs.declared.order.Start.{Start}
+use Rattle.eqfile.specs.declared.order.Start.the-variants.{Run, Refused}
+
+-- a run: rate and bits of the file, its number of samples, and where their bytes start
+pub record Plan : Type 0 where
+  pub rate : ℕ
+  pub bits : ℕ
+  pub samples : ℕ
+  pub start : ℕ
+
+-- the page's number of a refusal
+abbrev pub numberOf : Refusal → ℕ
+numberOf refusal.Arguments = 30
+numberOf refusal.NotWave = 21
+numberOf refusal.NoFormat = 22
+numberOf refusal.WrongFormat = 23
+numberOf refusal.CutOff = 24
+numberOf refusal.PartSample = 25
+numberOf refusal.TooLong = 26
+
+-- the samples in the data, and the bytes that they are written in: "26 .. above 4,294,967,259"
+abbrev pub planFor : Found → Answer Plan
+planFor f =
+    let samples = f .size / blockSize (f .bits) in
+    cond (ltb 4294967259 (3 * samples)) (refused 26)
+    (accepted (record { rate = f .rate; bits = f .bits; samples = samples; start = f .start }))
+
+-- "then the reader's; then 26"
+unfoldable pub planOf : Answer Found → Answer Plan
+planOf (accepted f) = planFor f
+planOf (refused n) = refused n
+
+-- first 30: refused arguments, "and any other number" than eight
+unfoldable pub startOf : Answer ℕ → List ℕ → Answer Plan
+unfolding planOf
+startOf (accepted n) front = cond (eqb n 8) (planOf (readOf front)) (refused 30)
+startOf (refused k) front = refused 30
+
+-- the page's number and values for `Start`
+abbrev pub startAnswer : Start → Answer Plan
+startAnswer (Run rate format samples start) = accepted (record { rate = rate; bits = bitsOf format; samples = samples; start = start })
+startAnswer (Refused r) = refused (numberOf r)

@@ -1,0 +1,30 @@
+// One block: bytes to samples, through the equaliser, and back to bytes.
+use crate::data::samples_from;
+use octave::block::block;
+use wave::Format;
+use wave::Stored;
+ghost use Rattle.eqfile.specs.Equalise.{Equalised, equaliseOf};
+
+// The first `skipped` outputs are dropped. Answers how many bytes were stored.
+pub fn equalise(
+    memory: &mut [i32],
+    gains: &[i32],
+    format: Format,
+    bytes: &[u8],
+    input: &mut [i32],
+    output: &mut [i32],
+    skipped: usize,
+    stored: &mut [u8],
+) -> usize
+    ensures { λ r. ⌜ Equalised (equaliseOf (now (memory .entry)) (now (gains .entry)) format (now (bytes .entry)) (now (input .entry)) (now (output .entry)) skipped (now (stored .entry))) r (now (memory .exit)) (now (input .exit)) (now (output .exit)) (now (stored .exit)) ⌝ }
+{
+    samples_from(bytes, format, input);
+    block(memory, gains, input, output);
+    if output.len() < skipped {
+        return 0;
+    }
+    let Stored::Bytes(n) = wave::samples_to_bytes(&output[skipped..], stored) else {
+        return 0;
+    };
+    n
+}

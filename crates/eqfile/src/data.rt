@@ -1,0 +1,55 @@
+// The data bytes: those that came with the front, and those of a block to its samples.
+use crate::small::least;
+use crate::small::left;
+use crate::small::size;
+use wave::Format;
+ghost use mathlib.Core.Path.{_≡_};
+ghost use Prim.Native.Nat.{_-_, _≤_};
+ghost use lib.ListN.{length, take, drop, replicate};
+ghost use lib.IntN.{pos};
+ghost use Rattle.eqfile.specs.Data.{carryOf, samplesFrom};
+
+fn copy(from: &[u8], to: &mut [u8])
+    requires { ⌜ length (now from) ≡ length (now to) ⌝ }
+    ensures { λ _. ⌜ now (to .exit) ≡ now (from .entry) ⌝ }
+{
+    let mut i = 0;
+    while i < to.len() {
+        to[i] = from[i];
+        i += 1;
+    }
+}
+
+// Puts the data that the front holds from `from` on at the start of the block's bytes, and answers how many there are.
+pub fn carry(front: &[u8], from: usize, bytes: &mut [u8]) -> usize
+    ensures { λ r. ⌜ (r, now (bytes .exit)) ≡ carryOf (now (front .entry)) from (now (bytes .entry)) ⌝ }
+{
+    let n = least(left(front.len(), from), bytes.len());
+    if n == 0 {
+        return 0;
+    }
+    let end = from + n;
+    copy(&front[from..end], &mut bytes[..n]);
+    n
+}
+
+fn clear(samples: &mut [i32])
+    ensures { λ _. ⌜ now (samples .exit) ≡ replicate (length (now (samples .entry))) (pos 0) ⌝ }
+{
+    let mut i = 0;
+    while i < samples.len() {
+        samples[i] = 0;
+        i += 1;
+    }
+}
+
+// The samples of a block: each that is wholly there, then zeros.
+pub fn samples_from(bytes: &[u8], format: Format, samples: &mut [i32])
+    ensures { λ _. ⌜ now (samples .exit) ≡ samplesFrom (length (now (samples .entry))) format (now (bytes .entry)) ⌝ }
+{
+    let bytes_each = size(format) as usize;
+    let whole = least(bytes.len() / bytes_each, samples.len());
+    let end = whole * bytes_each;
+    wave::bytes_to_samples(&bytes[..end], format, &mut samples[..whole]);
+    clear(&mut samples[whole..]);
+}

@@ -1,0 +1,94 @@
+// How a run starts: the checks in their order.
+use crate::small::size;
+use crate::taking::Arguments;
+use wave::Format;
+use wave::Reading;
+ghost use mathlib.Core.Path.{_≡_};
+ghost use Rattle.wave.specs.Walk.{readAnswer};
+ghost use Rattle.eqfile.specs.Arguments.{argumentsAnswer};
+ghost use Rattle.eqfile.specs.Start.{numberOf, planOf, startOf, startAnswer};
+
+pub enum Refusal {
+    // 30
+    Arguments,
+    // 21 to 25: the reader's.
+    NotWave,
+    NoFormat,
+    WrongFormat,
+    CutOff,
+    PartSample,
+    // 26: three bytes for each sample are too many.
+    TooLong,
+}
+
+pub enum Start {
+    // `samples` samples of a format, whose bytes begin at `start` of the front.
+    Run {
+        rate: u32,
+        format: Format,
+        samples: u32,
+        start: usize,
+    },
+    Refused(Refusal),
+}
+
+// The page's number of a refusal.
+pub fn number(refusal: Refusal) -> u64
+    ensures { λ r. ⌜ r ≡ numberOf refusal ⌝ }
+{
+    match refusal {
+        Refusal::NotWave => 21,
+        Refusal::NoFormat => 22,
+        Refusal::WrongFormat => 23,
+        Refusal::CutOff => 24,
+        Refusal::PartSample => 25,
+        Refusal::TooLong => 26,
+        Refusal::Arguments => 30,
+    }
+}
+
+// The most samples whose three bytes each stay within 4,294,967,259.
+const MOST: u32 = 1431655753;
+
+// An accepted header, if its samples can be written.
+fn plan(reading: Reading) -> Start
+    ensures { λ r. ⌜ startAnswer r ≡ planOf (readAnswer reading) ⌝ }
+{
+    match reading {
+        Reading::Accepted {
+            rate,
+            format,
+            length,
+            start,
+        } => {
+            let samples = length / size(format);
+            if MOST < samples {
+                return Start::Refused(Refusal::TooLong);
+            }
+            Start::Run {
+                rate,
+                format,
+                samples,
+                start,
+            }
+        }
+        Reading::NotWave => Start::Refused(Refusal::NotWave),
+        Reading::NoFormat => Start::Refused(Refusal::NoFormat),
+        Reading::WrongFormat => Start::Refused(Refusal::WrongFormat),
+        Reading::CutOff => Start::Refused(Refusal::CutOff),
+        Reading::PartSample => Start::Refused(Refusal::PartSample),
+    }
+}
+
+// The arguments, then the header, then the length to be written.
+pub fn begin(arguments: Arguments, front: &[u8]) -> Start
+    ensures { λ r. ⌜ startAnswer r ≡ startOf (argumentsAnswer arguments) (now (front .entry)) ⌝ }
+{
+    let Arguments::Taken(n) = arguments else {
+        return Start::Refused(Refusal::Arguments);
+    };
+    if n != 8 {
+        return Start::Refused(Refusal::Arguments);
+    }
+    plan(wave::read(front))
+}

@@ -1,0 +1,57 @@
+// The plan of a run: the samples of the file and 1,143 zeros after them go through the equaliser in blocks of 4,096.
+use crate::small::least;
+use crate::small::left;
+use crate::small::size;
+use wave::Format;
+ghost use mathlib.Core.Path.{_≡_};
+ghost use Rattle.wave.specs.Block.{sizeOf};
+ghost use Rattle.eqfile.specs.Turn.{fedInAll, turnOf, wantedOf, Planned, shortOf};
+
+// One block: how many samples are fed, how many bytes are to be read for them, how many outputs are dropped, and how many bytes the
+// others make.
+pub struct Turn {
+    pub fed: usize,
+    pub wanted: usize,
+    pub skipped: usize,
+    pub written: usize,
+}
+
+// How many samples are fed in all.
+pub fn fed_in_all(samples: u32) -> usize
+    ensures { λ r. ⌜ r ≡ fedInAll samples ⌝ }
+{
+    samples as usize + 1143
+}
+
+// The bytes to read for the block at `at`: none once the data has ended.
+fn wanted(format: Format, samples: u32, at: usize, read: usize, fed: usize) -> usize
+    ensures { λ r. ⌜ r ≡ wantedOf (sizeOf format) samples at read fed ⌝ }
+{
+    let bytes = size(format) as usize;
+    let count = samples as usize;
+    if read != bytes * least(at, count) {
+        return 0;
+    }
+    bytes * least(fed, left(count, at))
+}
+
+// The block after `at` samples were fed and `read` bytes of data were read.
+pub fn next_turn(format: Format, samples: u32, at: usize, read: usize) -> Turn
+    ensures { λ r. ⌜ Planned (turnOf (sizeOf format) samples at read) r ⌝ }
+{
+    let fed = least(4096, left(fed_in_all(samples), at));
+    let skipped = least(fed, left(1143, at));
+    Turn {
+        fed,
+        wanted: wanted(format, samples, at, read, fed),
+        skipped,
+        written: 3 * (fed - skipped),
+    }
+}
+
+// How many bytes of data are missing after `read` bytes.
+pub fn short(format: Format, samples: u32, read: usize) -> usize
+    ensures { λ r. ⌜ r ≡ shortOf (sizeOf format) samples read ⌝ }
+{
+    left(size(format) as usize * samples as usize, read)
+}

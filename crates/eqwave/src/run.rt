@@ -1,0 +1,99 @@
+// A run: the header, then block after block.
+use crate::buffers;
+use crate::say;
+use eqfile::Turn;
+use wave::Format;
+ghost use Prim.Native.Nat.{_≤_};
+ghost use lib.ListN.{length};
+
+// The data bytes of a block: those that came with the front, then those of standard input.
+fn fetch(front: &[u8], from: usize, bytes: &mut [u8]) -> usize
+    ensures { λ r. ⌜ r ≤ length (now (bytes .exit)) ⌝ }
+{
+    let had = eqfile::carry(front, from, bytes);
+    had + io::read_full(libc::STDIN_FILENO, &mut bytes[had..])
+}
+
+// Equalises a block and writes it. Answers whether standard output took it.
+fn put(format: Format, bytes: &[u8], turn: Turn, gains: &[i32], memory: &mut [i32]) -> bool
+    requires { ⌜ (turn .fed ≤ 4096) × (turn .written ≤ 12288) ⌝ }
+{
+    let mut input = buffers::samples();
+    let mut output = buffers::samples();
+    let mut stored = buffers::bytes();
+    let fed = turn.fed;
+    let written = turn.written;
+    let n = eqfile::equalise(
+        memory,
+        gains,
+        format,
+        bytes,
+        &mut input[..fed],
+        &mut output[..fed],
+        turn.skipped,
+        &mut stored[..written],
+    );
+    io::write_all(libc::STDOUT_FILENO, &stored[..n])
+}
+
+// Every block, and then what is missing. It stops where standard output takes no more.
+fn blocks(
+    format: Format,
+    samples: u32,
+    gains: &[i32],
+    memory: &mut [i32],
+    front: &[u8],
+    start: usize,
+) {
+    let mut bytes = buffers::bytes();
+    let mut from = start;
+    let mut read = 0;
+    let mut at = 0;
+    let total = eqfile::fed_in_all(samples);
+    while at < total {
+        let turn = eqfile::next_turn(format, samples, at, read);
+        let wanted = turn.wanted;
+        let got = fetch(front, from, &mut bytes[..wanted]);
+        if !put(format, &bytes[..got], turn, gains, memory) {
+            say::output_failed();
+            return;
+        }
+        from = front.len();
+        read += got;
+        at += turn.fed;
+    }
+    missing(eqfile::short(format, samples, read));
+}
+
+fn missing(bytes: usize) {
+    if 0 < bytes {
+        say::line(b"short ", bytes as u64);
+    }
+}
+
+fn put_header(rate: u32, samples: u32) -> bool
+    requires { ⌜ samples ≤ 1431655753 ⌝ }
+{
+    let mut header = [0u8; 44];
+    wave::write(&mut header, rate, 3 * samples);
+    io::write_all(libc::STDOUT_FILENO, &header)
+}
+
+pub(crate) fn run(
+    rate: u32,
+    format: Format,
+    samples: u32,
+    gains: &[i32],
+    front: &[u8],
+    start: usize,
+)
+    requires { ⌜ samples ≤ 1431655753 ⌝ }
+{
+    if !put_header(rate, samples) {
+        say::output_failed();
+        return;
+    }
+    let mut memory = buffers::memory();
+    octave::memory::prepare(8, &mut memory);
+    blocks(format, samples, gains, &mut memory, front, start);
+}

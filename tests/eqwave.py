@@ -1,0 +1,271 @@
+#!/usr/bin/env python3
+"""Runs the built program for what its stored run does not see: standard error, refusals, pipes, long files.
+
+Each expected byte is reckoned here or in reckon.c from the page. Exits with 1 if anything differs."""
+import os
+import random
+import struct
+import subprocess
+import sys
+import tempfile
+import time
+
+HERE = os.path.dirname(os.path.abspath(__file__))
+PROGRAM = os.path.join(HERE, "..", "eqwave")
+ZERO = ["0"] * 8
+LONG_SECONDS = 300
+WHOLE = bytes.fromhex(
+    "52494646 2A000000 57415645 666D7420 10000000 0100 0100 80BB0000 80320200 0300 1800 64617461 06000000 010000 FFFFFF".replace(" ", "")
+)
+failures = []
+cases = 0
+
+
+def chunk(name, contents, length=None):
+    return name + struct.pack("<I", len(contents) if length is None else length) + contents
+
+
+def fmt(rate=48000, bits=24, tag=1, channels=1, block=None, byte_rate=None):
+    block = bits // 8 if block is None else block
+    return chunk(b"fmt ", struct.pack("<HHIIHH", tag, channels, rate, rate * block if byte_rate is None else byte_rate, block, bits))
+
+
+def riff(*chunks, size=None):
+    body = b"WAVE" + b"".join(chunks)
+    return b"RIFF" + struct.pack("<I", len(body) if size is None else size) + body
+
+
+def wave24(data, rate=48000):
+    return riff(fmt(rate), chunk(b"data", data))
+
+
+def run(args, source, **more):
+    done = subprocess.run([PROGRAM] + args, input=source, stdout=subprocess.PIPE, stderr=subprocess.PIPE, timeout=300, **more)
+    return done.stdout, done.stderr
+
+
+def expect(name, got, want):
+    """Two (standard output, standard error) pairs are the same."""
+    global cases
+    cases += 1
+    for part, a, b in zip(("standard output", "standard error"), got, want):
+        if a != b:
+            at = next((i for i, (x, y) in enumerate(zip(a, b)) if x != y), min(len(a), len(b)))
+            failures.append(name)
+            print(f"DIFFERS {name}: {part} has {len(a)} bytes, wanted {len(b)}; first at {at}: {a[at:at + 24]!r}, wanted {b[at:at + 24]!r}")
+
+
+def refused(name, args, source, number):
+    expect(name, run(args, source), (b"", b"refused %d\n" % number))
+
+
+def gain(n):
+    """The entry for n half decibels, by the page's inequalities."""
+    up, down = (10 ** n, 1) if n >= 0 else (1, 10 ** -n)
+    return next(g for g in range(1, 16385) if (2 * g - 1) ** 40 * down <= 8192 ** 40 * up < (2 * g + 1) ** 40 * down)
+
+
+def reckon(args, data):
+    gains = [str(gain(int(a))) for a in args]
+    return subprocess.run([RECKON] + gains, input=data, stdout=subprocess.PIPE, check=True).stdout
+
+
+def compile_reckon(folder):
+    out = os.path.join(folder, "reckon")
+    subprocess.run(["cc", "-O2", "-o", out, os.path.join(HERE, "reckon.c")], check=True)
+    return out
+
+
+def samples(count, rng):
+    """Random 24-bit samples with both ends of the range among them."""
+    data = bytearray(rng.randbytes(3 * count))
+    for end in (b"\xff\xff\x7f", b"\x00\x00\x80"):
+        if count:
+            at = 3 * rng.randrange(count)
+            data[at:at + 3] = end
+    return bytes(data)
+
+
+def settings(rng):
+    return [str(rng.randint(-24, 24)) for _ in range(8)]
+
+
+def whole_case():
+    expect("the 50 bytes", run(ZERO, WHOLE), (WHOLE, b""))
+
+
+def zero_gives_back(rng):
+    for count in (0, 1, 1142, 1143, 1144, 2953, 4095, 4096, 4097, 9000, rng.randrange(20000)):
+        for rate in (44100, 48000):
+            source = wave24(samples(count, rng), rate)
+            expect(f"all 0, {count} samples at {rate}", run(ZERO, source), (source, b""))
+    source = wave24(samples(3000, rng))
+    expect("-0 and 00 are 0", run(["-0", "00", "-00"] + ZERO[3:], source), (source, b""))
+
+
+def arguments():
+    bad = ["", "-", "--1", "+1", "25", "-25", "100", "-100", "a", "1a", "a1", "1.5", " 1", "1 ", "-1 ", "- 1", "1-", "99", "000", "123456789", "\u0661"]
+    for text in bad:
+        for place in (0, 7):
+            refused(f"argument {text!r} at {place}", ZERO[:place] + [text] + ZERO[place + 1:], WHOLE, 30)
+    for args in ([], ZERO[:7], ZERO + ["0"], ZERO * 3):
+        refused(f"{len(args)} arguments", args, WHOLE, 30)
+    refused("a bad argument before a bad header", ["x"] + ZERO[1:], b"", 30)
+
+
+def argument_values(rng):
+    data = samples(1500, rng)
+    for n in range(-24, 25):
+        args = [str(n)] + ZERO[1:]
+        expect(f"lowest band {n}", run(args, wave24(data)), (wave24(reckon(args, data)), b""))
+    expect("two digits with a nought", run(["07"] + ZERO[1:], wave24(data)), (wave24(reckon(["7"] + ZERO[1:], data)), b""))
+
+
+def headers():
+    data = chunk(b"data", b"\1\0\0")
+    pad = chunk(b"note", b"\0" * 4090)
+    for name, source, number in [
+        ("nothing", b"", 21),
+        ("11 bytes", WHOLE[:11], 21),
+        ("RIFX", b"RIFX" + WHOLE[4:], 21),
+        ("WAVX", WHOLE[:8] + b"WAVX" + WHOLE[12:], 21),
+        ("data before fmt", riff(data, fmt()), 22),
+        ("fmt of 18 bytes", riff(chunk(b"fmt ", b"\0" * 18), data), 23),
+        ("a second fmt", riff(fmt(), fmt(), data), 23),
+        ("tag 3", riff(fmt(tag=3), data), 23),
+        ("two channels", riff(fmt(channels=2), data), 23),
+        ("rate 96000", riff(fmt(rate=96000), data), 23),
+        ("8 bits", riff(fmt(bits=8), data), 23),
+        ("32 bits", riff(fmt(bits=32), data), 23),
+        ("block size 4", riff(fmt(block=4), data), 23),
+        ("byte rate", riff(fmt(byte_rate=1), data), 23),
+        ("no data", riff(fmt()), 24),
+        ("a cut chunk header", riff(fmt(), b"data\0"), 24),
+        ("data past 4096", riff(fmt(), pad, data), 24),
+        ("4 bytes of data", riff(fmt(), chunk(b"data", b"\0" * 4)), 25),
+        ("3 bytes of data in 16 bits", riff(fmt(bits=16), chunk(b"data", b"\0" * 3)), 25),
+        ("too long to be written in 24 bits", riff(fmt(), chunk(b"data", b"", 4294967262)), 26),
+        ("too long to be written in 16 bits", riff(fmt(bits=16), chunk(b"data", b"", 2 * 1431655754)), 26),
+    ]:
+        refused(name, ZERO, source, number)
+
+
+def accepted_headers(rng):
+    data = samples(2000, rng)
+    args = settings(rng)
+    want = (wave24(reckon(args, data)), b"")
+    before = chunk(b"LIST", b"x" * 100) + fmt() + chunk(b"fact", b"\0" * 4)
+    expect("chunks before data", run(args, riff(before, chunk(b"data", data))), want)
+    expect("bytes after the data", run(args, wave24(data) + b"LIST\x04\0\0\0abcd"), want)
+    expect("any RIFF size", run(args, riff(fmt(), chunk(b"data", data), size=0)), want)
+    pad = chunk(b"note", b"\0" * (4096 - 12 - 24 - 8 - 8))
+    expect("a header that ends at 4096", run(args, riff(fmt(), pad, chunk(b"data", data))), want)
+
+
+def sixteen_bits(rng):
+    for count in (0, 1, 5000):
+        data = rng.randbytes(2 * count)
+        wide = b"".join(b"\0" + data[i:i + 2] for i in range(0, len(data), 2))
+        source = riff(fmt(44100, 16), chunk(b"data", data))
+        expect(f"16 bits, {count} samples", run(ZERO, source), (wave24(wide, 44100), b""))
+        args = settings(rng)
+        expect(f"16 bits, {count} samples, {args}", run(args, source), (wave24(reckon(args, wide), 44100), b""))
+
+
+def short_data(rng):
+    for bits in (16, 24):
+        size = bits // 8
+        for whole in (0, 1, 3, 1365, 1366, 4096, 5000):
+            for part in range(size):
+                there = rng.randbytes(size * whole + part)
+                said = size * 6000
+                source = riff(fmt(48000, bits), chunk(b"data", there, said))
+                full = [there[i:i + size] for i in range(0, size * whole, size)]
+                wide = b"".join(s if bits == 24 else b"\0" + s for s in full) + b"\0\0\0" * (6000 - whole)
+                args = settings(rng)
+                want = (wave24(reckon(args, wide)), b"short %d\n" % (said - len(there)))
+                expect(f"{bits} bits short at {whole} samples and {part} bytes", run(args, source), want)
+    expect("nothing of the data", run(ZERO, riff(fmt(), chunk(b"data", b"", 6))), (wave24(b"\0" * 6), b"short 6\n"))
+
+
+def slow_pipe(rng):
+    for source, step in ((WHOLE, 1), (wave24(samples(700, rng)), 1), (wave24(samples(20000, rng)), 997)):
+        child = subprocess.Popen([PROGRAM] + ZERO, stdin=subprocess.PIPE, stdout=subprocess.PIPE, stderr=subprocess.PIPE, bufsize=0)
+        for i in range(0, len(source), step):
+            child.stdin.write(source[i:i + step])
+            if i < 64:
+                time.sleep(0.001)
+        expect(f"{len(source)} bytes by {step} through a pipe", child.communicate(), (source, b""))
+
+
+def output_fails(rng):
+    source = wave24(samples(200000, rng))
+    line = b"eqwave: standard output: "
+    with open("/dev/full", "wb") as full:
+        said = subprocess.run([PROGRAM] + ZERO, input=source, stdout=full, stderr=subprocess.PIPE, timeout=60).stderr
+    expect("a full standard output", (b"", said), (b"", line + b"No space left on device\n"))
+    with tempfile.TemporaryFile() as file:
+        file.write(source)
+        file.seek(0)
+        close = lambda: os.close(1)
+        said = subprocess.run([PROGRAM] + ZERO, stdin=file, stderr=subprocess.PIPE, preexec_fn=close, timeout=60).stderr
+        expect("a closed standard output", (b"", said), (b"", line + b"Bad file descriptor\n"))
+        file.seek(0)
+        child = subprocess.Popen([PROGRAM] + ZERO, stdin=file, stdout=subprocess.PIPE, stderr=subprocess.PIPE)
+        first = child.stdout.read(44)
+        child.stdout.close()
+        said = child.stderr.read()
+        child.wait(timeout=60)
+        expect("a pipe that closes midway", (first, said), (source[:44], line + b"Broken pipe\n"))
+
+
+def memory_of(child):
+    """The most memory that a running program has held, in kilobytes."""
+    with open(f"/proc/{child.pid}/status") as status:
+        return next(int(line.split()[1]) for line in status if line.startswith("VmHWM"))
+
+
+def long_file(rng, folder):
+    """Several minutes through a pipe, byte for byte; the memory after the first megabyte is the memory at the end."""
+    args = settings(rng)
+    data = samples(LONG_SECONDS * 48000, rng)
+    source = wave24(data)
+    path = os.path.join(folder, "long.wav")
+    began = time.time()
+    with open(path, "wb") as sink:
+        child = subprocess.Popen([PROGRAM] + args, stdin=subprocess.PIPE, stdout=sink, stderr=subprocess.PIPE)
+        child.stdin.write(source[:1000000])
+        early = memory_of(child)
+        child.stdin.write(source[1000000:-3])
+        late = memory_of(child)
+        said = child.communicate(source[-3:])[1]
+    took = time.time() - began
+    with open(path, "rb") as file:
+        expect(f"{LONG_SECONDS} seconds of noise, {args}", (file.read(), said), (wave24(reckon(args, data)), b""))
+    expect("constant memory", (b"grew" if late > early + 1024 else b"", b""), (b"", b""))
+    print(f"{LONG_SECONDS} seconds of 48,000 samples took {took:.1f} s; memory {early} kB after a megabyte, {late} kB at the end")
+
+
+def main():
+    global RECKON
+    seed = int(sys.argv[1]) if len(sys.argv) > 1 else 20261115
+    rng = random.Random(seed)
+    with tempfile.TemporaryDirectory() as folder:
+        RECKON = compile_reckon(folder)
+        whole_case()
+        zero_gives_back(rng)
+        arguments()
+        argument_values(rng)
+        headers()
+        accepted_headers(rng)
+        sixteen_bits(rng)
+        short_data(rng)
+        slow_pipe(rng)
+        output_fails(rng)
+        long_file(rng, folder)
+    print(f"eqwave: seed {seed}, {cases} cases, {len(failures)} differ")
+    return 1 if failures else 0
+
+
+if __name__ == "__main__":
+    sys.exit(main())
