@@ -6,7 +6,8 @@ use native.Mathlib.Nat.{mul-comm, mul-le-mul-right}
 use native.Mathlib.Omega.{arith}
 use borrow.Author.Tests.{le-leb, lt-leb}
 use lib.Dec.{lit<, lit≤}
-use lib.ListN.{getD}
+use lib.ListN.{length, getD, take, drop}
+use lib.Seq.{getD-take, getD-drop}
 use lib.IntN.{ℤ, pos, natAbs, _+ℤ_, _*ℤ_}
 use lib.Signed.{mag}
 use mir.Syntax.{w32, w64}
@@ -77,8 +78,15 @@ pub read-new : (line : List ℤ) (size at L : ℕ) {x : ℤ} → SFits w32 x →
 unfolding tap
 read-new line size at L f = record { fits = f .sfits; value = refl }
 
-pub read-straight : (line : List ℤ) (size at L : ℕ) (x : ℤ) (i : ℕ) → 1 ≤ i → i ≤ 18 → 18 * L ≤ at → mag (getD line (at - i * L) (pos 0)) < 2 ^ 31 → Read (getD line (at - i * L) (pos 0)) (tap line size at L x i)
-read-straight line size at L x i s h k f = record { fits = f; value = straight-tap line size at L x i s h k }
+-- in a window that starts 18·L back, k places up is i taps back
+pub read-window : (line : List ℤ) (size at L : ℕ) (x : ℤ) → 18 * L ≤ at → at < length line → (i k : ℕ) → 1 ≤ i → i ≤ 18 → k + i * L ≡ 18 * L → let window = take (length line - (at - 18 * L)) (drop (at - 18 * L) line) in mag (getD window k (pos 0)) < 2 ^ 31 → Read (getD window k (pos 0)) (tap line size at L x i)
+read-window line size at L x reach inside i k s h e f =
+    record {
+      fits = f;
+      value =
+          getD-take (length line - (at - 18 * L)) (drop (at - 18 * L) line) k (pos 0) (omega arith) ∙ getD-drop (at - 18 * L) line k (pos 0) ∙
+          ap (λ (j : ℕ). getD line j (pos 0)) (omega arith) ∙ straight-tap line size at L x i s h reach;
+    }
 
 pub read-wrapped : (line : List ℤ) (size at L : ℕ) (x : ℤ) (i k : ℕ) → 1 ≤ i → k ≡ place size at (i * L) → mag (getD line k (pos 0)) < 2 ^ 31 → Read (getD line k (pos 0)) (tap line size at L x i)
 unfolding tap

@@ -19,23 +19,26 @@ fn place(size: usize, at: usize, d: usize) -> usize
     at + size - d
 }
 
-// The sum where no tap wraps: the usual path.
+// The sum where no tap wraps: the usual path. The taps count upward in a window of the line, from the oldest on, so that
+// their places come of l alone.
 fn straight(line: &[i32], size: usize, at: usize, l: usize, x: i32) -> i64
     requires { ⌜ Within (now line) size at l × (18 * l ≤ at) ⌝ }
     ensures { λ r. ⌜ Summed published (now (line .entry)) size at l x r ⌝ }
 {
+    let from = at - 18 * l;
+    let window = &line[from..];
     weigh(
         x,
-        line[at - 2 * l],
-        line[at - 4 * l],
-        line[at - 6 * l],
-        line[at - 8 * l],
-        line[at - 9 * l],
-        line[at - 10 * l],
-        line[at - 12 * l],
-        line[at - 14 * l],
-        line[at - 16 * l],
-        line[at - 18 * l],
+        window[16 * l],
+        window[14 * l],
+        window[12 * l],
+        window[10 * l],
+        window[9 * l],
+        window[8 * l],
+        window[6 * l],
+        window[4 * l],
+        window[2 * l],
+        window[0],
     )
 }
 

@@ -335,3 +335,10 @@ accepted-decides s t f e same-bytes =
     sym (data-decides s t (l .place) (l .last) (l .comes) (l .data-at)
     (ap (λ (k : ℕ). take k s) (sym (l .start)) ∙ same-bytes ∙ ap (λ (k : ℕ). take k t) (l .start)))
     ∙ e
+
+-- the samples of an accepted file start in the front, or right behind it
+pub accepted-start : (s : List ℕ) (f : Found) → readOf s ≡ accepted f → f .start ≤ 4096
+unfolding readOf
+accepted-start s f e =
+    let l = landing (length (take 4096 s)) (take 4096 s) 12 nothing f (walk-of (take 4096 s) f e) in
+    omega (arith, l .data-at .whole, l .start, length-take 4096 s)

@@ -1,0 +1,86 @@
+/* oeq_block beside the plain C form, on the same noise, in turns; prints nanoseconds a sample and the ratio of the
+ * medians. `block BANDS ROUNDS` times; `block BANDS ROUNDS oeq` or `plain` runs one side alone, so many times round the
+ * rings, to count instructions. */
+#include <stdio.h>
+#include <stdlib.h>
+#include <string.h>
+#include <time.h>
+#include "octave_eq.h"
+#include "plain.h"
+
+enum { BLOCK = 4096, BLOCKS = 8 };
+
+static int32_t memory[OEQ_MEMORY_LENGTH(10)], gains[10], input[BLOCK], output[BLOCK], plain_output[BLOCK];
+static struct plain plain;
+
+static double now(void)
+{
+    struct timespec t;
+    clock_gettime(CLOCK_MONOTONIC, &t);
+    return (double)t.tv_sec * 1e9 + (double)t.tv_nsec;
+}
+
+static void run_oeq(int bands, int blocks, size_t length)
+{
+    for (int i = 0; i < blocks; i++)
+        if (oeq_block(memory, OEQ_MEMORY_LENGTH(bands), gains, (size_t)bands, input, length, output, length)
+            != (int64_t)length)
+            exit(1);
+}
+
+static void run_plain(int blocks, size_t length)
+{
+    for (int i = 0; i < blocks; i++)
+        plain_block(&plain, gains, input, plain_output, length);
+}
+
+static int by_size(const void *a, const void *b)
+{
+    double x = *(const double *)a, y = *(const double *)b;
+    return (x > y) - (x < y);
+}
+
+static double median(double *times, int rounds)
+{
+    qsort(times, (size_t)rounds, sizeof *times, by_size);
+    return times[rounds / 2];
+}
+
+int main(int argc, char **argv)
+{
+    int bands = argc > 1 ? atoi(argv[1]) : 10, rounds = argc > 2 ? atoi(argv[2]) : 21;
+    uint64_t state = 1;
+    if (oeq_is_refusal(oeq_prepare(bands, memory, OEQ_MEMORY_LENGTH(bands))) || rounds < 1)
+        return 2;
+    plain_prepare(&plain, bands);
+    for (int i = 0; i < bands; i++)
+        gains[i] = 1024 * (i + 3);
+    for (int i = 0; i < BLOCK; i++) {
+        state = state * 6364136223846793005u + 1442695040888963407u;
+        input[i] = (int32_t)(state >> 40) - (1 << 23);
+    }
+    if (argc > 3) {
+        size_t eighth = (size_t)(9 << (bands - 1)) / 8;
+        if (strcmp(argv[3], "oeq") == 0)
+            run_oeq(bands, 8 * rounds, eighth);
+        else
+            run_plain(8 * rounds, eighth);
+        return 0;
+    }
+    double *oeq = malloc((size_t)rounds * sizeof *oeq), *c = malloc((size_t)rounds * sizeof *c);
+    for (int i = 0; i < rounds; i++) {
+        double a = now();
+        run_oeq(bands, BLOCKS, BLOCK);
+        double b = now();
+        run_plain(BLOCKS, BLOCK);
+        c[i] = (now() - b) / (BLOCK * BLOCKS);
+        oeq[i] = (b - a) / (BLOCK * BLOCKS);
+        if (memcmp(output, plain_output, sizeof output) != 0) {
+            fprintf(stderr, "the two differ\n");
+            return 1;
+        }
+    }
+    double x = median(oeq, rounds), y = median(c, rounds);
+    printf("%d bands: oeq_block %.1f ns a sample, plain C %.1f ns, ratio %.2f\n", bands, x, y, x / y);
+    return 0;
+}

@@ -1,0 +1,4 @@
+-- What a C caller is returned, and what each call leaves in the lent places.
+pub mod Encode
+pub mod Answers
+pub mod Found

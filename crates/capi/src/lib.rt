@@ -1,0 +1,6 @@
+// The C interface of the public calls, declared and documented in include/octave_eq.h. An export only encodes its call's
+// answer. None has a `requires`: C callers prove nothing.
+mod code;
+mod equaliser;
+mod gains;
+mod waves;

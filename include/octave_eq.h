@@ -1,0 +1,202 @@
+/*
+ * octave_eq.h: the proved octave equaliser, its gain commands, the WAVE header and the sample codec, for C.
+ *
+ * Link with libcapi.a (x86-64 Linux), which needs nothing but memset. No call allocates, keeps a state of its own or
+ * calls back; each comes back after a bounded time. Calls on different places may run at the same time. At ten bands
+ * oeq_block takes about 2 KiB of stack.
+ *
+ * NUMBERS
+ *   sample   int32_t, -8,388,608 to 8,388,607: 24 bits, full scale at both ends.
+ *   gain     int32_t, 0 to 16,384; 4,096 is unity, so 16,384 is a factor of 4.
+ *   bands    2 to 10. Gains and bands are counted from the lowest: gains[0] is the lowest band's.
+ *   block    0 to 4,096 samples.
+ *
+ * ANSWERS
+ *   Every call returns an int64_t. An accepted call returns its answer, which is never below -8,388,608. A refusal is
+ *   INT64_MIN + number + 256 * place; the helpers below take it apart. The place is 0 today. The two never meet.
+ *   A refused call has changed nothing that was lent to it. Where several faults are there, the number is that of the
+ *   first in the order in which a call lists its refusals.
+ *
+ * POINTERS
+ *   A pointer with a length lends so many elements, aligned for their type, for the time of the call; with length 0 it
+ *   may be NULL. What a call may write must not overlap anything else that is lent to the same call: output is not input.
+ */
+#ifndef OCTAVE_EQ_H
+#define OCTAVE_EQ_H
+
+#include <stddef.h>
+#include <stdint.h>
+
+#ifdef __cplusplus
+extern "C" {
+#endif
+
+enum {
+    OEQ_BANDS_LEAST = 2,
+    OEQ_BANDS_MOST = 10,
+    OEQ_BLOCK_MOST = 4096,
+    OEQ_SAMPLE_LEAST = -8388608,
+    OEQ_SAMPLE_MOST = 8388607,
+    OEQ_GAIN_UNITY = 4096,
+    OEQ_GAIN_MOST = 16384,
+    OEQ_WAVE_FRONT = 4096,  /* the reader looks at no more than so many bytes */
+    OEQ_WAVE_HEADER = 44    /* what the writer makes */
+};
+
+/* The places of a line memory, for an array's length: 8,066 for eight bands, 41,474 for ten. */
+#define OEQ_MEMORY_LENGTH(bands) (2 + ((bands) - 1) * (9 << ((bands) - 1)))
+
+/* Refusal numbers. */
+enum {
+    OEQ_BAND_COUNT = 1,      /* band count not 2..10 */
+    OEQ_MEMORY_SIZE = 2,     /* memory length not that count's */
+    OEQ_MEMORY = 3,          /* memory not accepted: its count, its length or its position is wrong */
+    OEQ_GAIN_COUNT = 4,      /* number of gains is not the band count */
+    OEQ_GAIN = 5,            /* a gain not 0..16,384 */
+    OEQ_OUTPUT_LENGTH = 6,   /* output length differs from input length */
+    OEQ_TOO_LONG = 7,        /* over 4,096 samples */
+    OEQ_SAMPLE = 8,          /* a sample out of range */
+    OEQ_DECIBELS = 11,       /* no whole number of half decibels from -12 to 12 dB, or no number */
+    OEQ_FACTOR = 12,         /* factor not 0 to 4, or no number */
+    OEQ_BYTES_LENGTH = 18,   /* not two or three bytes; a buffer not three bytes */
+    OEQ_NOT_24_BITS = 19,    /* number out of the sample range */
+    OEQ_NOT_WAVE = 21,       /* front under 12 bytes, or RIFF or WAVE not there */
+    OEQ_NO_FORMAT = 22,      /* `data` before any `fmt ` */
+    OEQ_WRONG_FORMAT = 23,   /* `fmt ` of another length, with a wrong value, or a second one */
+    OEQ_CUT_OFF = 24,        /* a chunk header, or the contents of `fmt `, not wholly in the front */
+    OEQ_PART_SAMPLE = 25,    /* `data` length is not a multiple of the block size */
+    OEQ_WRITE_LENGTH = 26,   /* length not a multiple of 3, or above 4,294,967,259 */
+    OEQ_WRITE_BUFFER = 27,   /* buffer not 44 bytes */
+    OEQ_WRITE_RATE = 28      /* rate neither 44,100 nor 48,000 */
+};
+
+/* Whether an answer is a refusal. */
+static inline int oeq_is_refusal(int64_t answer)
+{
+    return answer < INT64_MIN / 2;
+}
+
+/* The number of a refusal; 0 for an accepted answer. */
+static inline int oeq_refusal_number(int64_t answer)
+{
+    return oeq_is_refusal(answer) ? (int)((answer - INT64_MIN) % 256) : 0;
+}
+
+/* The place of a refusal; 0 for an accepted answer. */
+static inline int64_t oeq_refusal_place(int64_t answer)
+{
+    return oeq_is_refusal(answer) ? (answer - INT64_MIN) / 256 : 0;
+}
+
+/* ---- the equaliser ------------------------------------------------------------------------------------------------ */
+
+/*
+ * The places that a line memory has for a band count: 2 + (bands - 1) * 9 * 2^(bands - 1).
+ *
+ * Returns the length. Refuses: 1 band count not 2..10.
+ */
+int64_t oeq_memory_length(int32_t bands);
+
+/*
+ * Fills a line memory for an empty history: silence before the first sample.
+ *
+ *   bands          2 to 10
+ *   memory         what oeq_block works in, memory_length places; whatever it held is gone
+ *   memory_length  oeq_memory_length(bands)
+ *
+ * Returns the delay of the output in samples, 9 * (2^(bands - 1) - 1): 1,143 for eight bands, 4,599 for ten.
+ * Refuses: 1 band count not 2..10; 2 memory length not that count's.
+ */
+int64_t oeq_prepare(int32_t bands, int32_t *memory, size_t memory_length);
+
+/*
+ * Equalises a block: output[i] answers input[i]. How a signal is cut into blocks does not matter, and an empty block
+ * changes no place.
+ *
+ *   memory   from oeq_prepare, then only changed by oeq_block. The line places may hold any numbers; it is accepted
+ *            exactly when memory[0] is 2..10, the length is that count's, and memory[1] is a place of a line.
+ *   gains    one for each band, 0 to 16,384, for every sample of this block; they may differ from call to call
+ *   input    samples
+ *   output   as long as input; not the same places
+ *
+ * Growth: a line value is at most 1.4 times as large as the line above it, so from prepared memory each stays within
+ * 32 bits (in other memory it is limited to 32 bits); the sum of eleven products has 64 bits, of which it fills 50, and
+ * the gain sum at most 51. Nothing is rounded but each line value once, to the nearest with a tie away from zero, and
+ * the gain sum once; then the output is limited to the sample range, and a loud sample never turns over. Scale nothing.
+ *
+ * Returns the number of samples written, input_length.
+ * Refuses: 3 memory not accepted; 4 number of gains is not the count; 5 a gain not 0..16,384; 6 output length differs
+ * from input; 7 over 4,096 samples; 8 a sample out of range.
+ */
+int64_t oeq_block(int32_t *memory, size_t memory_length, const int32_t *gains, size_t gains_length,
+                  const int32_t *input, size_t input_length, int32_t *output, size_t output_length);
+
+/* ---- gain commands ------------------------------------------------------------------------------------------------ */
+
+/*
+ * The gain of a number of decibels: -12 to 12 in steps of 0.5, -0.0 as 0; nearest to 4,096 * 10^(decibels / 20).
+ *
+ * Returns the gain, 1,029 to 16,306. Refuses: 11 any other number, NaN and infinities.
+ */
+int64_t oeq_gain_decibels(float decibels);
+
+/*
+ * The gain of a factor: 0 to 4, both included, -0.0 as 0; 4,096 times the factor, to the nearest, a tie upward.
+ *
+ * Returns the gain, 0 to 16,384. Refuses: 12 any other number, NaN and infinities.
+ */
+int64_t oeq_gain_factor(float factor);
+
+/* The gain of a band that is off. Returns 0. Refuses nothing. */
+int64_t oeq_gain_off(void);
+
+/* ---- WAVE --------------------------------------------------------------------------------------------------------- */
+
+/*
+ * Reads the header at the front of a PCM file of one channel.
+ *
+ *   front   the file's first 4,096 bytes, or the whole file if it is shorter; of more, the first 4,096 are judged
+ *   found   four places, never NULL; written by an accepted call only:
+ *           found[0] rate, 44,100 or 48,000 Hz; found[1] bits of a sample, 16 or 24;
+ *           found[2] length of the samples in bytes; found[3] where they start, in bytes from the front's first
+ *
+ * Returns 4, the number of places written.
+ * Refuses: 21 front under 12 bytes or names wrong; then, as the chunks come: 22 `data` before any `fmt `; 23 `fmt ` of
+ * another length than 16, with a wrong value, or a second one; 24 a chunk header or the contents of `fmt ` not wholly in
+ * the front; 25 `data` length not a multiple of the block size.
+ */
+int64_t oeq_wave_read(const uint8_t *front, size_t front_length, uint32_t *found);
+
+/*
+ * Writes the header of a 24-bit file of one channel.
+ *
+ *   buffer   44 bytes
+ *   rate     44,100 or 48,000 Hz
+ *   length   of the samples in bytes, a multiple of 3, at most 4,294,967,259
+ *
+ * Returns 44, the number of bytes written.
+ * Refuses: 27 buffer not 44 bytes; 28 rate neither of the two; 26 length not a multiple of 3 or too large.
+ */
+int64_t oeq_wave_write(uint8_t *buffer, size_t buffer_length, uint32_t rate, uint32_t length);
+
+/*
+ * The sample in three bytes, or in two, taken times 256: two's complement, the lowest byte first.
+ *
+ * Returns the sample, which may be negative: ask oeq_is_refusal, not its sign. Refuses: 18 not two or three bytes.
+ */
+int64_t oeq_sample_from_bytes(const uint8_t *bytes, size_t bytes_length);
+
+/*
+ * Writes a sample's three bytes: two's complement, the lowest byte first.
+ *
+ *   buffer   3 bytes
+ *
+ * Returns 3, the number of bytes written. Refuses: 18 buffer not three bytes; 19 number out of range.
+ */
+int64_t oeq_sample_to_bytes(int32_t sample, uint8_t *buffer, size_t buffer_length);
+
+#ifdef __cplusplus
+}
+#endif
+
+#endif

@@ -1,0 +1,14 @@
+#!/usr/bin/env bash
+# The C interface from outside: the archive is built, the minimal program is held to its stored output, and the archive is
+# held to models written from the page. Prints the seed, and else only what fails. --long and --seed N are handed on.
+set -euo pipefail
+cd "$(dirname "${BASH_SOURCE[0]}")/.."
+source tests/x86.sh
+made=$(mktemp -d)
+trap 'rm -rf "$made"' EXIT
+rt staticlib capi > "$made/log" 2>&1 || { cat "$made/log"; exit 1; }
+archive=target/staticlib/libcapi.a
+"${CC[@]}" "${CFLAGS[@]}" examples/minimal.c "$archive" -o "$made/minimal"
+"${RUN[@]}" "$made/minimal" | diff examples/minimal.expected -
+"${CC[@]}" "${CFLAGS[@]}" tests/differential/*.c "$archive" -lm -o "$made/differential"
+"${RUN[@]}" "$made/differential" "$@"

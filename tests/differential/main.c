@@ -1,0 +1,34 @@
+/* The archive against models written from the page. Silent but for the seed; --long goes on for longer. */
+#include <string.h>
+#include <time.h>
+#include "check.h"
+#include "parts.h"
+
+uint64_t seed_of_run, random_state;
+
+int main(int argc, char **argv)
+{
+    int more = 1;
+    seed_of_run = (uint64_t)time(NULL);
+    for (int i = 1; i < argc; i++) {
+        if (strcmp(argv[i], "--long") == 0)
+            more = 20;
+        else if (strcmp(argv[i], "--seed") == 0 && i + 1 < argc)
+            seed_of_run = strtoull(argv[++i], NULL, 10);
+        else {
+            fprintf(stderr, "usage: %s [--long] [--seed N]\n", argv[0]);
+            return 2;
+        }
+    }
+    printf("differential: seed %llu\n", (unsigned long long)seed_of_run);
+    fflush(stdout);
+    random_state = seed_of_run;
+    lengths();
+    histories(35 * more);
+    wild_memories(60 * more);
+    block_refusals(20 * more);
+    gain_commands(8000000L * more);
+    samples();
+    headers(100000 * more);
+    return 0;
+}
