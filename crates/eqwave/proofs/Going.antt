@@ -10,6 +10,7 @@ use borrow.Rule.Slice.PartMut.{putMid, midOf, same-len-mid}
 use Rattle.eqfile.specs.declared.plan.Turn as declared
 use Rattle.eqfile.specs.Turn.{fedInAll}
 use Rattle.eqfile.proofs.Plans.{Bounds}
+use Rattle.eqwave.specs.Room.{Room}
 
 pub record Going (samples total : ℕ) (memory₀ memory : List ℤ) (bytes : List ℕ) (read at : ℕ) : Type 0 where
   pub whole : total ≡ fedInAll samples
@@ -41,3 +42,12 @@ pub both-within : (had more : ℕ) (xs ys : List ℕ) → had ≤ length xs → 
     had + more ≤ length (putMid had (length xs - had) xs ys)
 both-within had more xs ys h l m =
     omega (arith, same-len-mid had (length xs - had) xs ys l, length-take (length xs - had) (drop had xs), length-drop had xs)
+
+-- the buffers that every block uses again
+pub record Buffers (input output : List ℤ) (stored : List ℕ) : Type 0 where
+  pub input-long : length input ≡ 4096
+  pub output-long : length output ≡ 4096
+  pub stored-long : length stored ≡ 12288
+
+pub room : (samples at : ℕ) (t : declared.Turn) (input output : List ℤ) (stored : List ℕ) → Bounds samples at t → Buffers input output stored → Room t input output stored
+room samples at t input output stored b l = record { input-room = omega arith; output-room = omega arith; stored-room = omega arith }

@@ -5,6 +5,7 @@ use eqfile::Turn;
 use wave::Format;
 ghost use Prim.Native.Nat.{_≤_};
 ghost use lib.ListN.{length};
+ghost use Rattle.eqwave.specs.Room.{Room};
 
 // The data bytes of a block: those that came with the front, then those of standard input.
 fn fetch(front: &[u8], from: usize, bytes: &mut [u8]) -> usize
@@ -14,13 +15,19 @@ fn fetch(front: &[u8], from: usize, bytes: &mut [u8]) -> usize
     had + io::read_full(libc::STDIN_FILENO, &mut bytes[had..])
 }
 
-// Equalises a block and writes it. Answers whether standard output took it.
-fn put(format: Format, bytes: &[u8], turn: Turn, gains: &[i32], memory: &mut [i32]) -> bool
-    requires { ⌜ (turn .fed ≤ 4096) × (turn .written ≤ 12288) ⌝ }
+// Equalises a block and writes it. Answers whether standard output took it. The last three are buffers, lent so that no block clears them.
+fn put(
+    format: Format,
+    bytes: &[u8],
+    turn: Turn,
+    gains: &[i32],
+    memory: &mut [i32],
+    input: &mut [i32],
+    output: &mut [i32],
+    stored: &mut [u8],
+) -> bool
+    requires { ⌜ Room turn (now input) (now output) (now stored) ⌝ }
 {
-    let mut input = buffers::samples();
-    let mut output = buffers::samples();
-    let mut stored = buffers::bytes();
     let fed = turn.fed;
     let written = turn.written;
     let n = eqfile::equalise(
@@ -46,6 +53,9 @@ fn blocks(
     start: usize,
 ) {
     let mut bytes = buffers::bytes();
+    let mut input = buffers::samples();
+    let mut output = buffers::samples();
+    let mut stored = buffers::bytes();
     let mut from = start;
     let mut read = 0;
     let mut at = 0;
@@ -54,7 +64,16 @@ fn blocks(
         let turn = eqfile::next_turn(format, samples, at, read);
         let wanted = turn.wanted;
         let got = fetch(front, from, &mut bytes[..wanted]);
-        if !put(format, &bytes[..got], turn, gains, memory) {
+        if !put(
+            format,
+            &bytes[..got],
+            turn,
+            gains,
+            memory,
+            &mut input,
+            &mut output,
+            &mut stored,
+        ) {
             say::output_failed();
             return;
         }

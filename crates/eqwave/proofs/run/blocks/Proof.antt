@@ -5,43 +5,68 @@ use native.Mathlib.Omega.{arith}
 use lib.ListN.{length, take, length-take}
 use lib.Seq.{length-take-le}
 use Rattle.eqfile.proofs.Plans.{Bounds, bounds}
-use Rattle.eqwave.proofs.Going.{Going, in-front, block-read}
+use Rattle.eqwave.proofs.Going.{Going, Buffers, in-front, block-read, room}
 use Rattle.eqwave.proofs.run.blocks.Statement.{statement}
 use Rattle.eqwave.proofs.run.blocks.Tie as tie
 
 abbrev Inv-loop : tie.InvT-loop
-Inv-loop format samples gains memory₀ front start bytes₀ from₀ read₀ at₀ total memory bytes from read at = Going samples total memory₀ memory bytes read at
+Inv-loop format samples gains memory₀ front start bytes₀ input₀ output₀ stored₀ from₀ read₀ at₀ total memory bytes input output stored from read at =
+    Going samples total memory₀ memory bytes read at × Buffers input output stored
 
 abbrev μ-loop : tie.MeasureT-loop
-μ-loop format samples gains memory₀ front start bytes₀ from₀ read₀ at₀ total memory bytes from read at = total - at
+μ-loop format samples gains memory₀ front start bytes₀ input₀ output₀ stored₀ from₀ read₀ at₀ total memory bytes input output stored from read at =
+    total - at
 
 -- the bounds of the block at hand
 planned : (c : tie.After-next-turn Inv-loop μ-loop) →
-    Bounds (c .before .before .before .before .before .before .args .samples) (c .before .before .loop .at) (c .next-turn .result)
+    Bounds (c .before .before .before .before .before .before .before .before .before .args .samples) (c .before .before .loop .at) (c .next-turn .result)
 planned c =
     let l = c .before .before in
-    let a = l .before .before .before .before .args in
+    let a = l .before .before .before .before .before .before .before .args in
     bounds (a .format) (a .samples) (l .loop .at) (l .loop .read) (c .next-turn .result) (c .next-turn .ensures)
 
 bytes-requires : tie.Need-bytes-requires Inv-loop μ-loop
 bytes-requires c κs = tt
 
+samples-requires : tie.Need-samples-requires Inv-loop μ-loop
+samples-requires c κs = tt
+
+samples-requires-2 : tie.Need-samples-requires-2 Inv-loop μ-loop
+samples-requires-2 c κs = tt
+
+bytes-requires-2 : tie.Need-bytes-requires-2 Inv-loop μ-loop
+bytes-requires-2 c κs = tt
+
 fed-in-all-requires : tie.Need-fed-in-all-requires Inv-loop μ-loop
 fed-in-all-requires c κs = tt
 
 loop-holds : tie.Need-loop-holds Inv-loop μ-loop
-loop-holds c = record { whole = c .fed-in-all .ensures; few = omega (arith, c .before .before .before .fits .samples); alike = refl; long = sym (c .before .bytes .ensures); within = omega arith; read-most = omega arith }
+loop-holds c =
+    let stored = c .before in
+    let output = stored .before in
+    let input = output .before in
+    let bytes = input .before in (
+      record {
+        whole = c .fed-in-all .ensures;
+        few = omega (arith, bytes .before .before .fits .samples);
+        alike = refl;
+        long = sym (bytes .bytes .ensures);
+        within = omega arith;
+        read-most = omega arith;
+      },
+      record { input-long = sym (input .samples .ensures); output-long = sym (output .samples2 .ensures); stored-long = sym (stored .bytes2 .ensures) },
+    )
 
 next-turn-requires : tie.Need-next-turn-requires Inv-loop μ-loop
 next-turn-requires c κs = tt
 
 array-borrow-prefix-bytes : tie.Need-array-borrow-prefix-bytes Inv-loop μ-loop
-array-borrow-prefix-bytes c = let b = planned c in omega (arith, c .before .before .loop .inv .long)
+array-borrow-prefix-bytes c = let b = planned c in omega (arith, c .before .before .loop .inv .0 .long)
 
 slice-aggregate-fetch : tie.Need-slice-aggregate-fetch Inv-loop μ-loop
 slice-aggregate-fetch c =
     let b = planned (c .before) in
-    sym (length-take-le _ (c .before .before .before .loop .bytes) (omega (arith, c .before .before .before .loop .inv .long)))
+    sym (length-take-le _ (c .before .before .before .loop .bytes) (omega (arith, c .before .before .before .loop .inv .0 .long)))
 
 fetch-requires : tie.Need-fetch-requires Inv-loop μ-loop
 fetch-requires c κs = tt
@@ -52,47 +77,68 @@ array-share-prefix-bytes c = in-front _ (c .before .fetch .last .1 .1 .0) _ (c .
 slice-aggregate-put : tie.Need-slice-aggregate-put Inv-loop μ-loop
 slice-aggregate-put c = sym (length-take-le _ _ (in-front _ (c .before .before .fetch .last .1 .1 .0) _ (c .before .before .fetch .ensures)))
 
+slice-aggregate-put-2 : tie.Need-slice-aggregate-put-2 Inv-loop μ-loop
+slice-aggregate-put-2 c = sym (c .before .before .before .before .before .before .before .before .loop .inv .1 .input-long)
+
+slice-aggregate-put-3 : tie.Need-slice-aggregate-put-3 Inv-loop μ-loop
+slice-aggregate-put-3 c = sym (c .before .before .before .before .before .before .before .before .before .loop .inv .1 .output-long)
+
+slice-aggregate-put-4 : tie.Need-slice-aggregate-put-4 Inv-loop μ-loop
+slice-aggregate-put-4 c = sym (c .before .before .before .before .before .before .before .before .before .before .loop .inv .1 .stored-long)
+
 put-requires : tie.Need-put-requires Inv-loop μ-loop
-put-requires c κs = let b = planned (c .before .before .before .before .before) in (b .fed-most, b .written-most)
+put-requires c κs =
+    let next = c .before .before .before .before .before .before .before .before in
+    let l = next .before .before in
+    room (l .before .before .before .before .before .before .before .args .samples) (l .loop .at) (next .next-turn .result) (l .loop .input) (l .loop .output) (l .loop .stored) (planned next) (l .loop .inv .1)
 
 output-failed-requires : tie.Need-output-failed-requires Inv-loop μ-loop
 output-failed-requires c κs = tt
 
 same-length : tie.Need-same-length Inv-loop μ-loop
-same-length c = c .before .before .before .put .kept .1 .1 .1 .1 .0 ∙ c .before .before .before .before .before .before .before .before .before .before .before .loop .inv .alike
+same-length c =
+    let put = c .before .before .before .before .before .before in
+    put .put .kept .1 .1 .1 .1 .0 ∙ put .before .before .before .before .before .before .before .before .before .before .before .loop .inv .0 .alike
 
 returns : tie.Need-returns Inv-loop μ-loop
 returns c = tt
 
 add-read : tie.Need-add-read Inv-loop μ-loop
 add-read c =
-    let next = c .before .before .before .before .before .before .before .before in
+    let fetch = c .before .before .before .before .before .before .before .before .before .before .before .before in
+    let next = fetch .before .before in
     let b = planned next in
-    let fetch = c .before .before .before .before .before .before in
-    omega (arith, next .before .before .loop .inv, fetch .fetch .ensures, fetch .fetch .kept .1 .1 .0, length-take (next .next-turn .result .wanted) (next .before .before .loop .bytes))
+    omega (arith, next .before .before .loop .inv .0, fetch .fetch .ensures, fetch .fetch .kept .1 .1 .0, length-take (next .next-turn .result .wanted) (next .before .before .loop .bytes))
 
 add-at : tie.Need-add-at Inv-loop μ-loop
 add-at c =
-    let next = c .before .before .before .before .before .before .before .before .before in
+    let next = c .before .before .before .before .before .before .before .before .before .before .before .before .before .before .before in
     let b = planned next in
-    omega (arith, next .before .before .loop .inv)
+    omega (arith, next .before .before .loop .inv .0)
 
 loop-less : tie.Need-loop-less Inv-loop μ-loop
 loop-less c =
-    let next = c .before .before .before .before .before .before .before .before .before in
+    let next = c .before .before .before .before .before .before .before .before .before .before .before .before .before .before .before in
     let b = planned next in
-    let some = b .fed-some (omega (arith, next .before .before .loop .inv, next .before .loop-test .taken)) in
-    omega (arith, next .before .before .loop .inv, next .before .loop-test .taken)
+    let some = b .fed-some (omega (arith, next .before .before .loop .inv .0, next .before .loop-test .taken)) in
+    omega (arith, next .before .before .loop .inv .0, next .before .loop-test .taken)
 
 loop-again : tie.Need-loop-again Inv-loop μ-loop
 loop-again c =
-    let next = c .before .before .before .before .before .before .before .before .before in
-    let fetch = c .before .before .before .before .before .before .before in
-    let put = c .before .before .before in
+    let put = c .before .before .before .before .before .before in
+    let next = put .before .before .before .before .before .before .before .before .before in
+    let fetch = put .before .before .before .before .before .before .before in
     let l = next .before .before in
-    let a = l .before .before .before .before .args in
-    block-read (a .samples) (l .before .fed-in-all .result) (a .memory .now) (l .loop .memory) (put .put .last .1 .1 .1 .1 .0) (l .loop .bytes) (fetch .fetch .last .1 .1 .0)
-    (l .loop .read) (l .loop .at) (fetch .fetch .result) (next .next-turn .result) (l .loop .inv) (planned next) (put .put .kept .1 .1 .1 .1 .0) (fetch .fetch .kept .1 .1 .0) (fetch .fetch .ensures)
+    let a = l .before .before .before .before .before .before .before .args in
+    let inv = l .loop .inv in (
+      block-read (a .samples) (l .before .fed-in-all .result) (a .memory .now) (l .loop .memory) (put .put .last .1 .1 .1 .1 .0) (l .loop .bytes) (fetch .fetch .last .1 .1 .0)
+          (l .loop .read) (l .loop .at) (fetch .fetch .result) (next .next-turn .result) (inv .0) (planned next) (put .put .kept .1 .1 .1 .1 .0) (fetch .fetch .kept .1 .1 .0) (fetch .fetch .ensures),
+      record {
+        input-long = put .put .kept .1 .1 .1 .1 .1 .0 ∙ inv .1 .input-long;
+        output-long = put .put .kept .1 .1 .1 .1 .1 .1 .0 ∙ inv .1 .output-long;
+        stored-long = put .put .kept .1 .1 .1 .1 .1 .1 .1 .0 ∙ inv .1 .stored-long;
+      },
+    )
 
 short-requires : tie.Need-short-requires Inv-loop μ-loop
 short-requires c κs = tt
@@ -101,7 +147,7 @@ missing-requires : tie.Need-missing-requires Inv-loop μ-loop
 missing-requires c κs = tt
 
 same-length-2 : tie.Need-same-length-2 Inv-loop μ-loop
-same-length-2 c = c .before .before .before .loop .inv .alike
+same-length-2 c = c .before .before .before .loop .inv .0 .alike
 
 returns-2 : tie.Need-returns-2 Inv-loop μ-loop
 returns-2 c = tt
@@ -113,6 +159,9 @@ blocks-spec =
     Inv-loop
     μ-loop
     bytes-requires
+    samples-requires
+    samples-requires-2
+    bytes-requires-2
     fed-in-all-requires
     loop-holds
     next-turn-requires
@@ -121,6 +170,9 @@ blocks-spec =
     fetch-requires
     array-share-prefix-bytes
     slice-aggregate-put
+    slice-aggregate-put-2
+    slice-aggregate-put-3
+    slice-aggregate-put-4
     put-requires
     output-failed-requires
     same-length
