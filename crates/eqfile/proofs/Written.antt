@@ -7,7 +7,7 @@ use Prim.Native.Nat.{ℕ, zero, suc, _+_, _-_, _*_, _≤_, _<_}
 use native.Mathlib.Decide.{decLt}
 use native.Mathlib.Nat.{add-comm}
 use native.Mathlib.Omega.{arith}
-use lib.ListN.{length, getD, drop, replicate, length-append, length-replicate, List·getD-append, List·getD-eq-default}
+use lib.ListN.{length, getD, drop, replicate, length-append, length-replicate, getD-replicate, List·getD-append, List·getD-eq-default}
 use lib.Seq.{getD-drop, getD-append-add}
 use lib.IntN.{ℤ, pos, _*ℤ_}
 use lib.Signed.{_≤ℤ_}
@@ -25,6 +25,10 @@ use Rattle.octave.specs.Run.{outOf}
 use Rattle.octave.specs.Memory.{prepared}
 use Rattle.octave.specs.History.{Call, played, AllAccepted, joined, carried}
 use Rattle.octave.proofs.WholeHistory.{output-at, carried-here, carried-later}
+use Rattle.gain.specs.Table.{entry, gains}
+use Rattle.wave.specs.Answer.{accepted}
+use Rattle.eqfile.specs.Argument.{halfDecibels, argumentOf}
+use Rattle.eqfile.specs.Arguments.{eachGain, argumentsOf}
 use Rattle.eqfile.specs.Turn.{late}
 
 -- every call has the same gains
@@ -81,3 +85,16 @@ module _ (gains xs : List ℤ) (cs : List Call) (all : AllAccepted (prepared 8) 
     where
       delayed : (n : ℕ) → back (signalOf xs) (n + late) late ≡ signalOf xs n
       delayed n = rw (le-leb late (n + late) (omega arith)) (ap (signalOf xs) (omega arith))
+
+-- ---- arguments all 0
+
+-- eight noughts are accepted as eight gains of 4,096
+pub noughts-are-unity : argumentsOf (replicate 8 (48 ∷ [])) ≡ accepted (replicate 8 (pos 4096))
+unfolding argumentsOf eachGain argumentOf halfDecibels entry gains
+noughts-are-unity = refl
+
+-- .. and give every sample in range back
+pub noughts-give-back : (xs : List ℤ) (cs : List Call) → AllAccepted (prepared 8) cs → SameGains (replicate 8 (pos 4096)) cs → joined cs ≡ followed xs → (n : ℕ) → n < length xs →
+    least24 ≤ℤ signalOf xs n → signalOf xs n ≤ℤ most24 → getD (drop late (played (prepared 8) cs .output)) n (pos 0) ≡ getD xs n (pos 0)
+noughts-give-back xs cs all same fed =
+    unity-gives-back (replicate 8 (pos 4096)) xs cs all same fed (λ m l h. getD-replicate 8 (m - 1) (pos 4096) (pos 0) (omega arith))
