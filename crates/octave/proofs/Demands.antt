@@ -2,7 +2,7 @@
 use mathlib.Core.Path.{_≡_, sym, ap, subst, _∙_}
 use mathlib.Core.Bool.{true}
 use mathlib.Core.List.{List, [], _∷_}
-use Prim.Native.Nat.{ℕ, zero, suc, _+_, _-_, _*_, _≤_, _<_}
+use Prim.Native.Nat.{ℕ, zero, suc, _+_, _-_, _*_, _^_, _≤_, _<_}
 use native.Mathlib.Decide.{decLt}
 use native.Mathlib.Omega.{arith}
 use borrow.Author.Tests.{lt-ltb, le-ltb}
@@ -10,16 +10,17 @@ use lib.ListN.{length, getD, length-append, List·getD-eq-default}
 use lib.IntN.{ℤ, pos, negℤ, natAbs, _-ℤ_, _*ℤ_}
 use lib.Signed.{_≤ℤ_, _<ℤ_, leZ-yes}
 use Rattle.whole.specs.Nearest.{nearest}
-use Rattle.whole.specs.Limit.{limit, least24, most24}
+use Rattle.whole.specs.Limit.{limit, least24, most24, least32, most32}
 use Rattle.whole.proofs.Signed.{var, lit, le-by}
 use Rattle.tree.specs.Prototype.{published}
 use Rattle.tree.specs.Signal.{Signal, back, signalOf, gainOf}
-use Rattle.tree.specs.Tree.{delay, output}
+use Rattle.tree.specs.Tree.{lowPass, level, delay, output}
 use Rattle.tree.specs.Exact.{commonScale, slack, farthest}
 use Rattle.tree.specs.Edges.{IsGain, AllowedGains}
 use Rattle.tree.proofs.Distance.{distance}
 use Rattle.tree.proofs.Farthest.{never-past-302}
 use Rattle.tree.proofs.EqualGains.{equal-gains}
+use Rattle.tree.proofs.Reach.{reach, published-reach, published-low-pass-never-limited}
 use Rattle.tree.proofs.NoCrack.{above-stays-above, below-stays-below}
 use Rattle.octave.specs.declared.memory.Kept.{Kept}
 use Rattle.octave.specs.declared.memory.Kept.the-variants.{Bands, CountWrong, LengthWrong, PositionOutside}
@@ -29,7 +30,7 @@ use Rattle.octave.specs.Memory.{prepared, keptOf}
 use Rattle.octave.specs.Block.{blockAt, blockOf}
 use Rattle.octave.specs.History.{Call, AllAccepted, joined, carried, written, exact}
 use Rattle.octave.proofs.Ranges.{within-parts, all-at}
-use Rattle.octave.proofs.Calls.{not-both, judged-accepts}
+use Rattle.octave.proofs.Calls.{not-both, judged-accepts, samples-small}
 use Rattle.octave.proofs.WholeHistory.{output-at, carried-here, carried-later}
 
 -- ---- the gains of accepted calls are allowed
@@ -60,6 +61,18 @@ carried-allowed m (c ∷ cs) a n h k = by (decLt n (length (c .input))) (λ l. c
         subst IsGain (sym (carried-here c cs n k l))
         (gain-is (c .gains) (accepted-gains (keptOf m) m (c .gains) (c .input) (c .before) (length (c .input)) (a .0)) k)
     by (no q) rest = subst IsGain (sym (carried-later c cs n k (omega arith))) (rest (omega (arith, length-append (c .input) (joined cs))))
+
+-- ---- the 32-bit limit
+
+-- 01, Line memory: "From prepared memory that never acts, which is to be shown": line M - j of accepted calls is within its reach, far within
+-- 32 bits, and so is each new value of the line below it before the limit
+module _ (m : List ℤ) (cs : List Call) (all : AllAccepted m cs) (n : ℕ) where
+  pub line-within : (j : ℕ) → natAbs (level published j (signalOf (joined cs)) n) ≤ reach 140240 j
+  line-within j = published-reach (signalOf (joined cs)) n (λ k _. samples-small m cs all k) j
+
+  pub limit-never-acts : (j : ℕ) → j < 9 →
+      limit least32 most32 (lowPass published (2 ^ j) (level published j (signalOf (joined cs))) n) ≡ lowPass published (2 ^ j) (level published j (signalOf (joined cs))) n
+  limit-never-acts = published-low-pass-never-limited (signalOf (joined cs)) n (λ k _. samples-small m cs all k)
 
 -- ---- the demands, for the output at n of accepted calls from prepared memory
 
