@@ -10,3 +10,9 @@ pub mod Written
 pub mod Eight
 pub mod NeverMore
 pub mod OneAnswer
+pub mod Joins
+pub mod Pieces
+pub mod InRange
+pub mod Accepting
+pub mod Allowing
+pub mod Program

@@ -5,13 +5,12 @@ use mathlib.Core.List.{List, [], _∷_}
 use Prim.Native.Nat.{ℕ, _+_, _-_, _*_, _/_, _%_, _≤_, _<_, min}
 use native.Mathlib.Nat.{mul-le-mul-left, div-add-mod', mul-comm, le-trans}
 use native.Mathlib.Omega.{arith}
-use borrow.Author.Tests.{eqb-true}
-use lib.Dec.{eqb, ltb}
+use lib.Dec.{ltb}
 use Rattle.wave.specs.Answer.{Answer, accepted, refused}
 use Rattle.wave.specs.Values.{blockSize}
 use Rattle.wave.specs.Walk.{Found}
 use Rattle.eqfile.specs.Start.{Plan, planFor}
-use Rattle.eqfile.specs.Turn.{wantedOf, turnOf}
+use Rattle.eqfile.specs.Turn.{allRead, wantedOf, turnOf}
 
 -- what was read for each block in turn: never more than was asked
 unfoldable pub Reads : (size samples at read : ℕ) → List ℕ → Type 0
@@ -24,15 +23,15 @@ total [] = 0
 total (n ∷ ns) = n + total ns
 
 -- a block leaves the bytes read within those of the samples fed
-step : (size samples at read fed got : ℕ) → read ≤ size * min at samples → got ≤ wantedOf size samples at read fed → read + got ≤ size * min (at + fed) samples
+pub step : (size samples at read fed got : ℕ) → read ≤ size * min at samples → got ≤ wantedOf size samples at read fed → read + got ≤ size * min (at + fed) samples
 unfolding wantedOf
-step size samples at read fed got r g = by (eqb read (size * min at samples)) refl g
+step size samples at read fed got r g = by (allRead size samples at read) g
   where
-    by : (b : Bool) → eqb read (size * min at samples) ≡ b → got ≤ cond b (size * min fed (samples - at)) 0 → read + got ≤ size * min (at + fed) samples
-    by true e h =
+    by : (b : Bool) → got ≤ cond b (size * min fed (samples - at)) 0 → read + got ≤ size * min (at + fed) samples
+    by true h =
         let l : size * (min at samples + min fed (samples - at)) ≤ size * min (at + fed) samples = mul-le-mul-left size (omega arith) in
         omega arith
-    by false e h =
+    by false h =
         let l : size * min at samples ≤ size * min (at + fed) samples = mul-le-mul-left size (omega arith) in
         omega arith
 

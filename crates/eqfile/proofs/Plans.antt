@@ -4,14 +4,12 @@ use mathlib.Core.Bool.{Bool, true, false, cond}
 use Prim.Native.Nat.{ℕ, _+_, _-_, _*_, _/_, _≤_, _<_, _^_, min}
 use native.Mathlib.Nat.{mul-le-mul-right, mul-le-mul-left, min-le-left, min-le-right}
 use native.Mathlib.Omega.{arith}
-use borrow.Author.Tests.{eq-eqb, ne-eqb}
-use lib.Dec.{eqb}
 use mir.Val.{Fits}
 use mir.Syntax.{w64}
 use Rattle.wave.specs.Block.{sizeOf}
 use Rattle.wave.specs.declared.format.Format.{Format}
 use Rattle.wave.specs.declared.format.Format.the-variants.{Bits16, Bits24}
-use Rattle.eqfile.specs.Turn.{Block, late, longest, fedInAll, wantedOf, turnOf, Planned}
+use Rattle.eqfile.specs.Turn.{Block, late, longest, fedInAll, allRead, wantedOf, turnOf, Planned}
 use Rattle.eqfile.specs.declared.plan.Turn as declared
 
 pub few-bytes : (format : Format) → (2 ≤ sizeOf format) × (sizeOf format ≤ 3)
@@ -24,22 +22,22 @@ product-fits a b ha hb =
     let l : a * b ≤ 3 * b = mul-le-mul-right b (omega arith) in
     omega arith
 
-module _ (size samples at read fed s l : ℕ) (is : s ≡ size) (before : l ≡ min at samples) where
+module _ (size samples at read fed : ℕ) where
   -- fewer bytes were read than asked: the data has ended
-  pub ended : (read ≡ s * l → ⊥) → 0 ≡ wantedOf size samples at read fed
+  pub ended : allRead size samples at read ≡ false → 0 ≡ wantedOf size samples at read fed
   unfolding wantedOf
-  ended h = rw (ne-eqb read (size * min at samples) (λ e. h (e ∙ sym (ap₂ _*_ is before))))
+  ended h = ap (λ (b : Bool). cond b (size * min fed (samples - at)) 0) (sym h)
 
-  pub not-ended : (m left : ℕ) → read ≡ s * l → left ≡ samples - at → m ≡ min fed left → s * m ≡ wantedOf size samples at read fed
+  pub not-ended : (s m left : ℕ) → s ≡ size → allRead size samples at read ≡ true → left ≡ samples - at → m ≡ min fed left → s * m ≡ wantedOf size samples at read fed
   unfolding wantedOf
-  not-ended m left h e f = rw (eq-eqb read (size * min at samples) (h ∙ ap₂ _*_ is before)) (ap₂ _*_ is (f ∙ ap (λ (k : ℕ). min fed k) e))
+  not-ended s m left is h e f = ap₂ _*_ is (f ∙ ap (λ (k : ℕ). min fed k) e) ∙ ap (λ (b : Bool). cond b (size * min fed (samples - at)) 0) (sym h)
 
-pub turn-is : (size samples at read all left fed early skipped wanted : ℕ) → all ≡ fedInAll samples → left ≡ all - at → fed ≡ min 4096 left →
+pub turn-is : (size samples at read all left fed early skipped wanted : ℕ) → all ≡ fedInAll samples → left ≡ all - at → fed ≡ min longest left →
     early ≡ 1143 - at → skipped ≡ min fed early → wanted ≡ wantedOf size samples at read fed →
     Planned (turnOf size samples at read) (record { fed = fed; wanted = wanted; skipped = skipped; written = 3 * (fed - skipped) })
 unfolding turnOf
 turn-is size samples at read all left fed early skipped wanted a l f e s w =
-    let fed-is : fed ≡ min longest (fedInAll samples - at) = f ∙ ap (λ (k : ℕ). min 4096 k) (l ∙ ap (λ (k : ℕ). k - at) a) in
+    let fed-is : fed ≡ min longest (fedInAll samples - at) = f ∙ ap (λ (k : ℕ). min longest k) (l ∙ ap (λ (k : ℕ). k - at) a) in
     let skipped-is : skipped ≡ min (min longest (fedInAll samples - at)) (late - at) = s ∙ ap₂ min fed-is e in
     record {
       fed-is = fed-is;
@@ -51,21 +49,20 @@ turn-is size samples at read all left fed early skipped wanted a l f e s w =
 -- ---- what a caller's buffers have to hold
 
 pub record Bounds (samples at : ℕ) (t : declared.Turn) : Type 0 where
-  pub fed-most : t .fed ≤ 4096
+  pub fed-most : t .fed ≤ longest
   pub fed-left : t .fed ≤ fedInAll samples - at
   pub fed-some : at < fedInAll samples → 0 < t .fed
   pub wanted-most : t .wanted ≤ 3 * t .fed
   pub skipped-most : t .skipped ≤ t .fed
-  pub written-most : t .written ≤ 12288
+  pub written-most : t .written ≤ 3 * longest
 
-wanted-few : (format : Format) (samples at read fed : ℕ) → wantedOf (sizeOf format) samples at read fed ≤ 3 * fed
+-- no more bytes than those of the block
+pub wanted-few : (size samples at read fed : ℕ) → wantedOf size samples at read fed ≤ size * fed
 unfolding wantedOf
-wanted-few format samples at read fed = by (eqb read (sizeOf format * min at samples))
+wanted-few size samples at read fed = by (allRead size samples at read)
   where
-    by : (b : Bool) → cond b (sizeOf format * min fed (samples - at)) 0 ≤ 3 * fed
-    by true =
-        let l : sizeOf format * min fed (samples - at) ≤ 3 * min fed (samples - at) = mul-le-mul-right (min fed (samples - at)) (few-bytes format .1) in
-        omega arith
+    by : (b : Bool) → cond b (size * min fed (samples - at)) 0 ≤ size * fed
+    by true = mul-le-mul-left size (omega arith)
     by false = omega arith
 
 pub bounds : (format : Format) (samples at read : ℕ) (t : declared.Turn) → Planned (turnOf (sizeOf format) samples at read) t → Bounds samples at t
@@ -80,7 +77,7 @@ bounds format samples at read t p =
       fed-most = omega arith;
       fed-left = omega arith;
       fed-some = λ h. omega arith;
-      wanted-most = omega (arith, wanted-few format samples at read fed);
+      wanted-most = omega (arith, wanted-few (sizeOf format) samples at read fed, mul-le-mul-right fed (few-bytes format .1));
       skipped-most = omega arith;
       written-most = omega arith;
     }

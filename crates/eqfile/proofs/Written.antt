@@ -7,8 +7,8 @@ use Prim.Native.Nat.{ℕ, zero, suc, _+_, _-_, _*_, _≤_, _<_}
 use native.Mathlib.Decide.{decLt}
 use native.Mathlib.Nat.{add-comm}
 use native.Mathlib.Omega.{arith}
-use lib.ListN.{length, getD, drop, replicate, length-append, length-replicate, getD-replicate, List·getD-append, List·getD-eq-default}
-use lib.Seq.{getD-drop, getD-append-add}
+use lib.ListN.{length, getD, drop, replicate, length-append, length-drop, length-replicate, getD-replicate}
+use lib.Seq.{getD-drop, ext-getD}
 use lib.IntN.{ℤ, pos, _*ℤ_}
 use lib.Signed.{_≤ℤ_}
 use borrow.Author.Tests.{le-leb}
@@ -23,8 +23,8 @@ use Rattle.tree.specs.Tree.{line, heldBack, gainSum, output}
 use Rattle.tree.proofs.EqualGains.{equal-gains}
 use Rattle.octave.specs.Run.{outOf}
 use Rattle.octave.specs.Memory.{prepared}
-use Rattle.octave.specs.History.{Call, played, AllAccepted, joined, carried}
-use Rattle.octave.proofs.WholeHistory.{output-at, carried-here, carried-later}
+use Rattle.octave.specs.History.{Call, played, AllAccepted, joined, carried, from}
+use Rattle.octave.proofs.WholeHistory.{from-at, whole-history, output-at, carried-here, carried-later}
 use Rattle.gain.specs.Table.{entry, gains}
 use Rattle.wave.specs.Answer.{accepted}
 use Rattle.eqfile.specs.Argument.{halfDecibels, argumentOf}
@@ -63,17 +63,36 @@ gains-at : (g h : ℕ → ℕ → ℤ) (x : Signal) (n : ℕ) → ((m : ℕ) →
 unfolding output gainSum
 gains-at g h x n e = ap outOf (sum-ext 8 (λ i _. ap (λ (z : ℤ). z *ℤ heldBack published 8 (line published 8 x) (suc i) n) (e (suc i))))
 
+pub from-long : (n k : ℕ) (f : ℕ → ℤ) → length (from n k f) ≡ k
+unfolding from
+from-long n zero f = refl
+from-long n (suc k) f = ap suc (from-long (n + 1) k f)
+
 -- ---- the theorem
 
 module _ (gains xs : List ℤ) (cs : List Call) (all : AllAccepted (prepared 8) cs) (same : SameGains gains cs) (fed : joined cs ≡ followed xs) where
+  long : length (joined cs) ≡ length xs + late
+  long = ap length fed ∙ length-append xs (replicate late (pos 0)) ∙ ap (λ (k : ℕ). length xs + k) (length-replicate late (pos 0))
+
   -- sample n written is output n + 1,143 for the samples read
   pub written-is : (n : ℕ) → n < length xs → getD (drop late (played (prepared 8) cs .output)) n (pos 0) ≡ output published 8 (λ _. gainOf gains) (signalOf xs) (n + late)
   written-is n h =
-      let long : length (joined cs) ≡ length xs + late = ap length fed ∙ length-append xs (replicate late (pos 0)) ∙ ap (λ (k : ℕ). length xs + k) (length-replicate late (pos 0)) in
-      getD-drop late (played (prepared 8) cs .output) n (pos 0) ∙ output-at 8 (omega arith) (omega arith) cs all (late + n) (omega arith) ∙
-      gains-at (carried cs) (λ _. gainOf gains) (signalOf (joined cs)) (late + n) (λ m. carried-same gains cs same (late + n) m (omega arith)) ∙
+      let inside : late + n < length (joined cs) = omega (arith, long) in
+      getD-drop late (played (prepared 8) cs .output) n (pos 0) ∙ output-at 8 (omega arith) (omega arith) cs all (late + n) inside ∙
+      gains-at (carried cs) (λ _. gainOf gains) (signalOf (joined cs)) (late + n) (λ m. carried-same gains cs same (late + n) m inside) ∙
       ap (λ (x : Signal). output published 8 (λ _. gainOf gains) x (late + n)) (fun-ext (λ k. ap (λ (l : List ℤ). signalOf l k) fed ∙ zeros-after xs late k)) ∙
       ap (output published 8 (λ _. gainOf gains) (signalOf xs)) (add-comm late n)
+
+  -- .. and as many are written as were read
+  pub written-are : drop late (played (prepared 8) cs .output) ≡ from late (length xs) (output published 8 (λ _. gainOf gains) (signalOf xs))
+  written-are =
+      let o = played (prepared 8) cs .output in
+      let f = output published 8 (λ _. gainOf gains) (signalOf xs) in
+      let all-long : length o ≡ length (joined cs) =
+      ap length (whole-history 8 (omega arith) (omega arith) cs all) ∙ from-long 0 (length (joined cs)) (output published 8 (carried cs) (signalOf (joined cs))) in
+      let left : length (drop late o) ≡ length xs = length-drop late o ∙ omega (arith, all-long, long) in
+      ext-getD (pos 0) (drop late o) (from late (length xs) f) (left ∙ sym (from-long late (length xs) f))
+      (λ n h. let i : n < length xs = omega arith in written-is n i ∙ ap f (add-comm n late) ∙ sym (from-at late (length xs) f n i))
 
   -- gains of 4,096 give every sample back
   pub unity-gives-back : ((m : ℕ) → 1 ≤ m → m ≤ 8 → gainOf gains m ≡ pos 4096) → (n : ℕ) → n < length xs →

@@ -5,3 +5,4 @@ pub mod Turn
 pub mod Data
 pub mod Equalise
 pub mod Code
+pub mod Program

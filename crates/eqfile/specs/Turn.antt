@@ -1,6 +1,6 @@
 -- The plan of a run, 01, The program: "sample n is output n + 1,143; zeros follow the input".
 use mathlib.Core.Path.{_≡_}
-use mathlib.Core.Bool.{cond}
+use mathlib.Core.Bool.{Bool, cond}
 use Prim.Native.Nat.{ℕ, _+_, _-_, _*_, _≤_, min}
 use lib.Dec.{eqb}
 use Rattle.eqfile.specs.declared.plan.Turn as declared
@@ -17,9 +17,13 @@ longest = 4096
 abbrev pub fedInAll : ℕ → ℕ
 fedInAll samples = samples + late
 
+-- whether all bytes of the file's samples before `at` were read
+abbrev pub allRead : (size samples at read : ℕ) → Bool
+allRead size samples at read = eqb read (size * min at samples)
+
 -- the bytes to read for a block of `fed` samples at `at`: those of the file's samples in it, and none once fewer were read than asked
 unfoldable pub wantedOf : (size samples at read fed : ℕ) → ℕ
-wantedOf size samples at read fed = cond (eqb read (size * min at samples)) (size * min fed (samples - at)) 0
+wantedOf size samples at read fed = cond (allRead size samples at read) (size * min fed (samples - at)) 0
 
 -- a block: samples fed, bytes to read, outputs dropped, and bytes written, three for each other output
 pub record Block : Type 0 where

@@ -5,7 +5,7 @@ use crate::small::size;
 use wave::Format;
 ghost use mathlib.Core.Path.{_≡_};
 ghost use Rattle.wave.specs.Block.{sizeOf};
-ghost use Rattle.eqfile.specs.Turn.{fedInAll, turnOf, wantedOf, Planned, shortOf};
+ghost use Rattle.eqfile.specs.Turn.{fedInAll, allRead, wantedOf, turnOf, Planned, shortOf};
 
 // One block: how many samples are fed, how many bytes are to be read for them, how many outputs are dropped, and how many bytes the
 // others make.
@@ -23,16 +23,21 @@ pub fn fed_in_all(samples: u32) -> usize
     samples as usize + 1143
 }
 
+// Whether all bytes of the samples before `at` were read.
+fn all_read(format: Format, samples: u32, at: usize, read: usize) -> bool
+    ensures { λ r. ⌜ r ≡ allRead (sizeOf format) samples at read ⌝ }
+{
+    read == size(format) as usize * least(at, samples as usize)
+}
+
 // The bytes to read for the block at `at`: none once the data has ended.
 fn wanted(format: Format, samples: u32, at: usize, read: usize, fed: usize) -> usize
     ensures { λ r. ⌜ r ≡ wantedOf (sizeOf format) samples at read fed ⌝ }
 {
-    let bytes = size(format) as usize;
-    let count = samples as usize;
-    if read != bytes * least(at, count) {
+    if !all_read(format, samples, at, read) {
         return 0;
     }
-    bytes * least(fed, left(count, at))
+    size(format) as usize * least(fed, left(samples as usize, at))
 }
 
 // The block after `at` samples were fed and `read` bytes of data were read.

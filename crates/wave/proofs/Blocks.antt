@@ -145,7 +145,7 @@ length-bytes (z ∷ s) =
     let b = length-bytes s in
     length-append (little 3 (codeOf z)) (bytesOf s) ∙ omega arith
 
-bytes-append : (s t : List ℤ) → bytesOf (s ++ t) ≡ bytesOf s ++ bytesOf t
+pub bytes-append : (s t : List ℤ) → bytesOf (s ++ t) ≡ bytesOf s ++ bytesOf t
 unfolding bytesOf
 bytes-append [] t = refl
 bytes-append (z ∷ s) t = ap (λ (r : List ℕ). little 3 (codeOf z) ++ r) (bytes-append s t) ∙ sym (append-assoc (little 3 (codeOf z)) (bytesOf s) (bytesOf t))

@@ -1,0 +1,45 @@
+-- A whole run of the program, turn after turn: what it reads and what it writes after the header.
+use mathlib.Core.Path.{_≡_}
+use mathlib.Core.List.{List, [], _∷_, _++_}
+use Prim.Native.Nat.{ℕ, _+_, _≤_, _<_}
+use lib.ListN.{length, getD, take}
+use lib.IntN.{ℤ}
+use Rattle.wave.specs.Block.{sizeOf}
+use Rattle.wave.specs.declared.format.Format.{Format}
+use Rattle.eqfile.specs.Turn.{Block, fedInAll, turnOf}
+use Rattle.eqfile.specs.Equalise.{equaliseOf}
+
+-- a turn: the bytes that were read for its block, and what its three buffers held before
+pub record Turned : Type 0 where
+  pub read : List ℕ
+  pub input : List ℤ
+  pub output : List ℤ
+  pub stored : List ℕ
+
+-- a turn by the plan: any number of bytes up to those wanted, for the "data ends early", and buffers as long as the block
+pub record Follows (t : Block) (u : Turned) : Type 0 where
+  pub read-most : length (u .read) ≤ t .wanted
+  pub bytes : (i : ℕ) → getD (u .read) i 0 < 256
+  pub input-long : length (u .input) ≡ t .fed
+  pub output-long : length (u .output) ≡ t .fed
+  pub stored-long : length (u .stored) ≡ t .written
+
+-- the turns from `at` samples fed and `read` bytes read on, until the samples and the "zeros" that "follow the input" are all fed
+unfoldable pub Turns : Format → (samples at read : ℕ) → List Turned → Type 0
+Turns format samples at read [] = fedInAll samples ≤ at
+Turns format samples at read (u ∷ us) =
+    let t = turnOf (sizeOf format) samples at read in
+    Follows t u × Turns format samples (at + t .fed) (read + length (u .read)) us
+
+-- "the data bytes read", joined
+unfoldable pub handed : List Turned → List ℕ
+handed [] = []
+handed (u ∷ us) = u .read ++ handed us
+
+-- the bytes written by the turns from `at` and `read` on: each block's stored bytes, as many as the call answers
+unfoldable pub programWrites : List ℤ → Format → (samples at read : ℕ) → List ℤ → List Turned → List ℕ
+programWrites gains format samples at read memory [] = []
+programWrites gains format samples at read memory (u ∷ us) =
+    let t = turnOf (sizeOf format) samples at read in
+    let b = equaliseOf memory gains format (u .read) (u .input) (u .output) (t .skipped) (u .stored) in
+    take (b .count) (b .stored) ++ programWrites gains format samples (at + t .fed) (read + length (u .read)) (b .memory) us
