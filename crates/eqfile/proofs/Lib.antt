@@ -16,3 +16,4 @@ pub mod InRange
 pub mod Accepting
 pub mod Allowing
 pub mod Program
+pub mod Asking

@@ -60,7 +60,7 @@ last-piece size samples at read fed got r own = by (decLt got (size * fed)) (dec
 
 -- ---- all turns
 
-no-length : {A : Type 0} (s : List A) → length s ≡ 0 → s ≡ []
+pub no-length : {A : Type 0} (s : List A) → length s ≡ 0 → s ≡ []
 no-length [] e = refl
 no-length (a ∷ s) e = absurd (omega arith)
 

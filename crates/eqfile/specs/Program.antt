@@ -16,7 +16,7 @@ pub record Turned : Type 0 where
   pub output : List ℤ
   pub stored : List ℕ
 
--- a turn by the plan: any number of bytes up to those wanted, for the "data ends early", and buffers as long as the block
+-- a turn by the plan: no more bytes than it wants, fewer "if data ends early", and buffers as long as its block
 pub record Follows (t : Block) (u : Turned) : Type 0 where
   pub read-most : length (u .read) ≤ t .wanted
   pub bytes : (i : ℕ) → getD (u .read) i 0 < 256
@@ -24,7 +24,7 @@ pub record Follows (t : Block) (u : Turned) : Type 0 where
   pub output-long : length (u .output) ≡ t .fed
   pub stored-long : length (u .stored) ≡ t .written
 
--- the turns from `at` samples fed and `read` bytes read on, until the samples and the "zeros" that "follow the input" are all fed
+-- the turns after `at` samples were fed and `read` bytes read, until the file's samples and the zeros that "follow the input" are all fed
 unfoldable pub Turns : Format → (samples at read : ℕ) → List Turned → Type 0
 Turns format samples at read [] = fedInAll samples ≤ at
 Turns format samples at read (u ∷ us) =
@@ -36,7 +36,7 @@ unfoldable pub handed : List Turned → List ℕ
 handed [] = []
 handed (u ∷ us) = u .read ++ handed us
 
--- the bytes written by the turns from `at` and `read` on: each block's stored bytes, as many as the call answers
+-- the bytes that those turns write, from some memory on: of each block's stored bytes as many as the call answers
 unfoldable pub programWrites : List ℤ → Format → (samples at read : ℕ) → List ℤ → List Turned → List ℕ
 programWrites gains format samples at read memory [] = []
 programWrites gains format samples at read memory (u ∷ us) =
