@@ -14,7 +14,7 @@ use Rattle.tree.specs.Tree.{output}
 use Rattle.octave.specs.Memory.{prepared}
 use Rattle.octave.specs.Block.{blockOf}
 use Rattle.octave.specs.History.{played, AllAccepted, from}
-use Rattle.wave.specs.Answer.{accepted, refused}
+use Rattle.wave.specs.Answer.{accepted}
 use Rattle.wave.specs.Block.{sizeOf, bytesOf}
 use Rattle.wave.specs.declared.format.Format.{Format}
 use Rattle.wave.proofs.Blocks.{length-bytes, bytes-append}

@@ -16,7 +16,7 @@ pub record Turned : Type 0 where
   pub output : List ℤ
   pub stored : List ℕ
 
--- a turn by the plan: no more bytes than it wants, fewer "if data ends early", and buffers as long as its block
+-- a turn by the plan: no more bytes than it wants ("If data ends early", fewer), and buffers as long as its block
 pub record Follows (t : Block) (u : Turned) : Type 0 where
   pub read-most : length (u .read) ≤ t .wanted
   pub bytes : (i : ℕ) → getD (u .read) i 0 < 256
