@@ -116,7 +116,7 @@ gain-small : (g : ℤ) → within (pos 0) (pos 16384) g ≡ true → natAbs g �
 gain-small g e = omega (arith, about g, within-parts (pos 0) (pos 16384) g e)
 
 pub allowed-gains : (gains : List ℤ) {bands : ℕ} → length gains ≡ bands → allWithin (pos 0) (pos 16384) gains ≡ true → Allowed bands gains
-allowed-gains gains {bands} l e = record { enough = omega arith; range = λ i. by i (decLt i (length gains)) }
+allowed-gains gains {bands} l e = record { counted = l; range = λ i. by i (decLt i (length gains)) }
   where
     by : (i : ℕ) → Dec (i < length gains) → natAbs (getD gains i (pos 0)) ≤ 2 ^ 14
     by i (yes h) = gain-small (getD gains i (pos 0)) (all-at (pos 0) (pos 16384) gains e i h)

@@ -1,8 +1,8 @@
 -- The laws that the functions' proofs cite, by subject.
 pub mod Adding
 pub mod Taps
-pub mod Band
 pub mod Regions
+pub mod Differing
 pub mod Stepping
 pub mod Ranges
 pub mod Layouts

@@ -11,7 +11,7 @@ use lib.Seq.{take-all, drop-set-lt}
 use lib.IntN.{ℤ}
 use Rattle.tree.specs.Prototype.{published}
 use Rattle.octave.specs.Line.{Within}
-use Rattle.octave.specs.Step.{Region, Allowed}
+use Rattle.octave.specs.Step.{Region}
 
 pub less-one : (b : ℕ) → suc (suc b) - 1 ≡ suc b
 less-one b = omega arith
@@ -63,6 +63,3 @@ region-below (suc (suc b)) size at L lines x n r =
 
     halved : L * 2 ^ (suc (suc b) - 1) ≡ 2 * L * 2 ^ (suc b - 1)
     halved = rw (less-one b, one-off, pow-succ' 2 b) (omega arith)
-
-pub allowed-below : {bands : ℕ} {gains : List ℤ} → Allowed bands gains → Allowed (bands - 1) gains
-allowed-below a = record { enough = omega (arith, a .enough); range = a .range }

@@ -2,13 +2,13 @@
 use mathlib.Core.Path.{_≡_}
 use mathlib.Core.Bool.{cond}
 use mathlib.Core.List.{List, [], _∷_}
-use Prim.Native.Nat.{ℕ, _+_}
+use Prim.Native.Nat.{ℕ, suc, _+_}
 use lib.Dec.{ltb}
-use lib.IntN.{ℤ}
+use lib.IntN.{ℤ, pos}
 use Rattle.whole.specs.Nearest.{nearest}
 use Rattle.whole.specs.Limit.{limit, least24, most24}
 use Rattle.tree.specs.Prototype.{Prototype}
-use Rattle.octave.specs.Step.{Stepped, step}
+use Rattle.octave.specs.Step.{Stepped, step, Differ}
 
 -- the place after `at` in a ring
 abbrev pub next : ℕ → ℕ → ℕ
@@ -45,6 +45,10 @@ module _ (p : Prototype) where
 pub record Answered (o : Out) (places : List ℤ) (sample : ℤ) : Type 0 where
   pub places-are : places ≡ o .places
   pub sample-is : sample ≡ o .sample
+
+-- a sample's output, under the gains whose differences the code goes by
+pub record AnsweredUnder (p : Prototype) (bands size at : ℕ) (differences lines : List ℤ) (x : ℤ) (places : List ℤ) (sample : ℤ) : Type 0 where
+  pub under : (g : ℕ → ℤ) → Differ bands g differences → g (suc bands) ≡ pos 0 → Answered (answered p bands size at g lines x) places sample
 
 pub record RunDone (r : Ran) (places : List ℤ) (position : ℕ) (outputs : List ℤ) : Type 0 where
   pub places-are : places ≡ r .places

@@ -39,14 +39,22 @@ pub record Region (p : Prototype) (bands size at L : ℕ) (lines : List ℤ) : T
   pub whole : length lines ≡ (bands - 1) * size
   pub small : size ≤ 4608
 
--- .. and what it asks of the gains: one for each band, none beyond 16,384
+-- .. and what a block asks of the gains: one for each band, none beyond 16,384
 pub record Allowed (bands : ℕ) (gains : List ℤ) : Type 0 where
-  pub enough : bands ≤ length gains
+  pub counted : length gains ≡ bands
   pub range : (i : ℕ) → natAbs (getD gains i (pos 0)) ≤ 2 ^ 14
 
--- what the step answers: the places afterwards, the gain sum, far within 64 bits for any places, and the aligned sample
-pub record Done (bands : ℕ) (s : Stepped) (places : List ℤ) (total late : ℤ) : Type 0 where
-  pub places-are : places ≡ s .places
-  pub sum-is : total ≡ s .sum
-  pub aligned-is : late ≡ s .aligned
-  pub bounded : natAbs total ≤ bands * 2 ^ 46
+-- the gain differences that the code goes by: at place m - 1 the gain of band m less that of the band above
+pub record Differ (bands : ℕ) (g : ℕ → ℤ) (differences : List ℤ) : Type 0 where
+  pub at-place : (i : ℕ) → i < bands → getD differences i (pos 0) ≡ g (suc i) -ℤ g (suc (suc i))
+
+-- .. each within 2^15
+pub record Small (differences : List ℤ) : Type 0 where
+  pub range : (i : ℕ) → natAbs (getD differences i (pos 0)) ≤ 2 ^ 15
+
+-- what the step answers: the places afterwards, and the gain sum less the gain above times the aligned sample, far within 64 bits for any
+-- places. The sum over the lines of difference times aligned sample is that: g(b)·(a(b) - a(b-1)) over the bands, summed by parts.
+pub record Done (p : Prototype) (bands size at L : ℕ) (differences lines : List ℤ) (x : ℤ) (places : List ℤ) (r : ℤ) : Type 0 where
+  pub places-are : (g : ℕ → ℤ) → places ≡ step p bands size at L g lines x .places
+  pub sum-is : (g : ℕ → ℤ) → Differ bands g differences → r ≡ step p bands size at L g lines x .sum -ℤ g (suc bands) *ℤ step p bands size at L g lines x .aligned
+  pub bounded : natAbs r ≤ bands * 2 ^ 46

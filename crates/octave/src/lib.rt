@@ -1,6 +1,7 @@
 // The block equaliser: line memory, prepare, the cascade step, block.
 pub mod block;
 mod cascade;
+mod differences;
 mod layout;
 mod line;
 mod low;

@@ -4,9 +4,10 @@ ghost use Prim.Native.Nat.{_≤_, _<_};
 ghost use lib.ListN.{length};
 ghost use Rattle.tree.specs.Prototype.{published};
 ghost use Rattle.tree.specs.Signal.{gainOf};
-ghost use Rattle.octave.specs.Step.{Region, Allowed};
-ghost use Rattle.octave.specs.Run.{next, answered, run, Answered, RunDone};
+ghost use Rattle.octave.specs.Step.{Region, Allowed, Small};
+ghost use Rattle.octave.specs.Run.{next, run, AnsweredUnder, RunDone};
 use crate::cascade::step;
+use crate::differences::differences;
 use whole::limiting::limit_24;
 use whole::rounding::nearest_4096;
 
@@ -21,13 +22,19 @@ fn next(size: usize, at: usize) -> usize
     0
 }
 
-// One sample: through the lines, then rounded once and limited once.
-fn answer(lines: &mut [i32], size: usize, at: usize, bands: usize, gains: &[i32], x: i32) -> i32
-    requires { ⌜ Region published bands size at 1 (now lines) × Allowed bands (now gains) ⌝ }
-    ensures { λ r. ⌜ Answered (answered published bands size at (gainOf (now (gains .entry))) (now (lines .entry)) x) (now (lines .exit)) r ⌝ }
+// One sample: through the lines, then rounded once and limited once. No gain stands above the top band's.
+fn answer(
+    lines: &mut [i32],
+    size: usize,
+    at: usize,
+    bands: usize,
+    differences: &[i32; 10],
+    x: i32,
+) -> i32
+    requires { ⌜ Region published bands size at 1 (now lines) × Small (now differences) × (2 ≤ bands) ⌝ }
+    ensures { λ r. ⌜ AnsweredUnder published bands size at (now (differences .entry)) (now (lines .entry)) x (now (lines .exit)) r ⌝ }
 {
-    let stepped = step(lines, size, at, 1, bands, gains, x);
-    limit_24(nearest_4096(stepped.sum))
+    limit_24(nearest_4096(step(lines, size, at, 1, bands, differences, x)))
 }
 
 // Every sample of the block, from the position `from`; answers the position afterwards.
@@ -40,13 +47,14 @@ pub fn run(
     input: &[i32],
     output: &mut [i32],
 ) -> usize
-    requires { ⌜ Region published bands size from 1 (now lines) × Allowed bands (now gains) × (length (now output) ≡ length (now input)) ⌝ }
+    requires { ⌜ Region published bands size from 1 (now lines) × Allowed bands (now gains) × (length (now output) ≡ length (now input)) × (2 ≤ bands) ⌝ }
     ensures { λ r. ⌜ RunDone (run published bands size (gainOf (now (gains .entry))) (now (lines .entry)) from (now (input .entry))) (now (lines .exit)) r (now (output .exit)) ⌝ }
 {
+    let differences = differences(gains);
     let mut at = from;
     let mut i = 0;
     while i < input.len() {
-        output[i] = answer(lines, size, at, bands, gains, input[i]);
+        output[i] = answer(lines, size, at, bands, &differences, input[i]);
         at = next(size, at);
         i += 1;
     }

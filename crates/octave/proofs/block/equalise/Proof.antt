@@ -58,6 +58,7 @@ run-requires c κs =
           (c .before .before .before .line-length .ensures) (from-is (c .before .before)),
       allowed-gains (now (a .gains)) (s .pre .counted) (s .pre .allowed),
       s .pre .alike,
+      let m = memory-kept s in omega (arith, m .count .least, m .bands-are),
     )
 
 cast-memory : tie.Need-cast-memory

@@ -1,0 +1,108 @@
+-- The gain differences of neighbouring bands. Assumes nothing.
+use mathlib.Core.Path.{_≡_, refl, sym, ap, ap₂, _∙_}
+use mathlib.Core.List.{List}
+use Prim.Native.Nat.{ℕ, zero, suc, _+_, _-_, _≤_, _<_, _^_}
+use native.Mathlib.Nat.{mul-le-mul}
+use native.Mathlib.Omega.{arith}
+use native.Mathlib.Decide.{decLt}
+use lib.ListN.{length, getD, set, length-set, replicate, List·getD-eq-default}
+use lib.Seq.{getD-set-same, getD-set-other}
+use lib.IntN.{ℤ, pos, natAbs, _+ℤ_, _-ℤ_, _*ℤ_}
+use lib.Signed.{natAbs-le}
+use mir.Syntax.{w32, w64}
+use mir.Val.{SFits}
+use mir.Facts.{toZ-ofZ}
+use Rattle.whole.proofs.Signed.{var, lit, _⊖_, eq-by, about}
+use Rattle.whole.proofs.Magnitude.{abs-+ℤ, abs--ℤ, abs-*ℤ}
+use Rattle.whole.proofs.Product.{widens}
+use Rattle.whole.proofs.Rounded.{raw}
+use Rattle.tree.specs.Signal.{gainOf}
+use Rattle.octave.specs.Step.{Allowed, Differ, Small}
+
+-- a difference times a place
+pub part-small : (d a : ℤ) → natAbs d ≤ 2 ^ 15 → SFits w32 a → natAbs (d *ℤ a) ≤ 2 ^ 46
+part-small d a h f = rw (abs-*ℤ d a) (mul-le-mul {n₂ = 2 ^ 15} {m₂ = 2 ^ 31} h (natAbs-le a (f .sfits)))
+
+-- ---- one difference
+
+pub record Lessened (a b : ℤ) : Type 0 where
+  pub fits : SFits w32 (raw w32 a -ℤ raw w32 b)
+  pub value : raw w32 (raw w32 a -ℤ raw w32 b) ≡ a -ℤ b
+  pub small : natAbs (raw w32 (raw w32 a -ℤ raw w32 b)) ≤ 2 ^ 15
+
+pub lessened : (a b : ℤ) → SFits w32 a → SFits w32 b → natAbs a ≤ 2 ^ 14 → natAbs b ≤ 2 ^ 14 → Lessened a b
+lessened a b fa fb ha hb =
+    let h : natAbs (a -ℤ b) ≤ 2 ^ 15 = omega (arith, abs--ℤ a b) in
+    let f : SFits w32 (a -ℤ b) = record { sfits = omega (arith, about (a -ℤ b)) } in
+    record { fits = rw (toZ-ofZ fa, toZ-ofZ fb) f; value = rw (toZ-ofZ fa, toZ-ofZ fb) (toZ-ofZ f); small = rw (toZ-ofZ fa, toZ-ofZ fb, toZ-ofZ f) h }
+
+-- nothing stands above the last
+pub last-one : (gains : List ℤ) (i : ℕ) → length gains ≤ i + 1 → getD gains i (pos 0) ≡ getD gains i (pos 0) -ℤ getD gains (i + 1) (pos 0)
+last-one gains i h =
+    rw (List·getD-eq-default gains (pos 0) {n = i + 1} h) (eq-by (var (getD gains i (pos 0))) (var (getD gains i (pos 0)) ⊖ lit 0) (omega arith))
+
+-- ---- all of them
+
+-- up to place i the differences are found
+pub record Finding (gains found : List ℤ) (i : ℕ) : Type 0 where
+  pub reached : i ≤ length gains
+  pub long : length found ≡ 10
+  pub placed : (j : ℕ) → j < i → getD found j (pos 0) ≡ getD gains j (pos 0) -ℤ getD gains (j + 1) (pos 0)
+  pub small : (j : ℕ) → natAbs (getD found j (pos 0)) ≤ 2 ^ 15
+
+pub finding-starts : (gains : List ℤ) → Finding gains (replicate 10 (pos 0)) 0
+finding-starts gains = record { reached = omega arith; long = refl; placed = λ j h. absurd (omega arith); small = λ j. rw (all-nought 10 j) (omega arith) }
+  where
+    all-nought : (n j : ℕ) → getD (replicate n (pos 0)) j (pos 0) ≡ pos 0
+    all-nought zero j = refl
+    all-nought (suc n) zero = refl
+    all-nought (suc n) (suc j) = all-nought n j
+
+module _ (gains found : List ℤ) (i : ℕ) (f : Finding gains found i) where
+  pub finding-on : (r : ℤ) → i < length gains → length gains ≤ 10 → r ≡ getD gains i (pos 0) -ℤ getD gains (i + 1) (pos 0) → natAbs r ≤ 2 ^ 15 →
+      Finding gains (set found i (raw w32 r)) (i + 1)
+  finding-on r h few e s =
+      let back : raw w32 r ≡ r = toZ-ofZ (record { sfits = omega (arith, about r) }) in
+      let same : getD (set found i (raw w32 r)) i (pos 0) ≡ r = getD-set-same found i (raw w32 r) (pos 0) (omega (arith, f .long)) ∙ back in
+      record {
+        reached = omega arith;
+        long = length-set found i (raw w32 r) ∙ f .long;
+        placed = λ j l. placed-by j l same (decLt j i);
+        small = λ j. small-by j same (decLt j i) (decLt i j);
+      }
+    where
+      placed-by : (j : ℕ) → j < i + 1 → getD (set found i (raw w32 r)) i (pos 0) ≡ r → Dec (j < i) →
+          getD (set found i (raw w32 r)) j (pos 0) ≡ getD gains j (pos 0) -ℤ getD gains (j + 1) (pos 0)
+      placed-by j l same (yes q) = getD-set-other found i j (raw w32 r) (pos 0) (λ z. omega arith) ∙ f .placed j q
+      placed-by j l same (no n) = let z : j ≡ i = omega arith in rw z (same ∙ e)
+
+      small-by : (j : ℕ) → getD (set found i (raw w32 r)) i (pos 0) ≡ r → Dec (j < i) → Dec (i < j) → natAbs (getD (set found i (raw w32 r)) j (pos 0)) ≤ 2 ^ 15
+      small-by j same (yes q) d = rw (getD-set-other found i j (raw w32 r) (pos 0) (λ z. omega arith)) (f .small j)
+      small-by j same (no n) (yes q) = rw (getD-set-other found i j (raw w32 r) (pos 0) (λ z. omega arith)) (f .small j)
+      small-by j same (no n) (no k) = let z : j ≡ i = omega arith in rw (z, same) s
+
+  pub finding-ends : length gains ≤ i → Differ (length gains) (gainOf gains) found × Small found
+  finding-ends h = (
+    record { at-place = λ j l. f .placed j (omega arith) ∙ ap₂ (λ (u v : ℕ). getD gains u (pos 0) -ℤ getD gains v (pos 0)) (omega arith) (omega arith) },
+    record { range = f .small },
+  )
+
+-- the band above the top one has no gain
+pub none-above : (gains : List ℤ) {bands : ℕ} → length gains ≡ bands → gainOf gains (suc bands) ≡ pos 0
+none-above gains {bands} e = List·getD-eq-default gains (pos 0) {n = suc bands - 1} (omega arith)
+
+-- ---- a line's part of the gain sum
+
+pub record Added (s d late w : ℤ) : Type 0 where
+  pub asked : (natAbs (raw w64 s) ≤ 2 ^ 61) × (natAbs (raw w64 w) ≤ 2 ^ 30)
+  pub answer : (r : ℤ) → r ≡ raw w64 s +ℤ raw w64 w *ℤ raw w32 late → raw w64 r ≡ s +ℤ d *ℤ late
+
+pub added : (s d late w : ℤ) → SFits w64 s → SFits w32 d → SFits w32 late → natAbs s ≤ 2 ^ 61 → natAbs d ≤ 2 ^ 15 → w ≡ raw w32 d → Added s d late w
+added s d late w fs fd fl hs hd e =
+    let w-is : raw w64 w ≡ d = ap (raw w64) e ∙ widens fd .answer in
+    let part : natAbs (d *ℤ late) ≤ 2 ^ 46 = part-small d late hd fl in
+    let f : SFits w64 (s +ℤ d *ℤ late) = record { sfits = omega (arith, about (s +ℤ d *ℤ late), abs-+ℤ s (d *ℤ late)) } in
+    record {
+      asked = (rw (toZ-ofZ fs) hs, rw w-is (omega arith));
+      answer = λ r er. let r-is : r ≡ s +ℤ d *ℤ late = er ∙ ap₂ _+ℤ_ (toZ-ofZ fs) (ap₂ _*ℤ_ w-is (toZ-ofZ fl)) in rw r-is (toZ-ofZ f);
+    }
