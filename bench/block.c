@@ -1,6 +1,6 @@
-/* oeq_block beside the plain C form, on the same noise, in turns; prints nanoseconds a sample and the ratio of the
- * medians. `block BANDS ROUNDS` times; `block BANDS ROUNDS oeq` or `plain` runs one side alone, so many times round the
- * rings, to count instructions. */
+/* oeq_block beside the plain C form, on the same noise, in turns. `block BANDS ROUNDS` prints the medians, nanoseconds a
+ * sample, oeq_block's first; `block BANDS ROUNDS oeq` or `plain` runs one side alone, so many times round the rings, to
+ * count instructions. */
 #include <stdio.h>
 #include <stdlib.h>
 #include <string.h>
@@ -9,6 +9,13 @@
 #include "plain.h"
 
 enum { BLOCK = 4096, BLOCKS = 8 };
+
+/* Shifts all code behind it by SHIFT bytes: another layout. */
+#ifdef SHIFT
+#define TEXT(n) #n
+#define SKIP(n) ".text\n.skip " TEXT(n) "\n"
+__asm__(SKIP(SHIFT));
+#endif
 
 static int32_t memory[OEQ_MEMORY_LENGTH(10)], gains[10], input[BLOCK], output[BLOCK], plain_output[BLOCK];
 static struct plain plain;
@@ -80,7 +87,6 @@ int main(int argc, char **argv)
             return 1;
         }
     }
-    double x = median(oeq, rounds), y = median(c, rounds);
-    printf("%d bands: oeq_block %.1f ns a sample, plain C %.1f ns, ratio %.2f\n", bands, x, y, x / y);
+    printf("%.1f %.1f\n", median(oeq, rounds), median(c, rounds));
     return 0;
 }
