@@ -3,10 +3,9 @@ use crate::small::least;
 use crate::small::left;
 use crate::small::size;
 use wave::Format;
+use whole::places::clear;
 ghost use mathlib.Core.Path.{_≡_};
-ghost use Prim.Native.Nat.{_-_, _≤_};
-ghost use lib.ListN.{length, take, drop, replicate};
-ghost use lib.IntN.{pos};
+ghost use lib.ListN.{length};
 ghost use Rattle.eqfile.specs.Data.{carryOf, samplesFrom};
 
 fn copy(from: &[u8], to: &mut [u8])
@@ -31,16 +30,6 @@ pub fn carry(front: &[u8], from: usize, bytes: &mut [u8]) -> usize
     let end = from + n;
     copy(&front[from..end], &mut bytes[..n]);
     n
-}
-
-fn clear(samples: &mut [i32])
-    ensures { λ _. ⌜ now (samples .exit) ≡ replicate (length (now (samples .entry))) (pos 0) ⌝ }
-{
-    let mut i = 0;
-    while i < samples.len() {
-        samples[i] = 0;
-        i += 1;
-    }
 }
 
 // The samples of a block: each that is wholly there, then zeros.

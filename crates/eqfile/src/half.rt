@@ -3,10 +3,8 @@ use crate::digits::Digits;
 use crate::digits::digits_of;
 use gain::Command;
 use gain::Gained;
+use gain::half_decibel;
 ghost use mathlib.Core.Path.{_≡_};
-ghost use Prim.Native.Nat.{_<_};
-ghost use lib.IntN.{pos, _-ℤ_};
-ghost use Rattle.gain.specs.Decibels.{Half};
 ghost use Rattle.eqfile.specs.Argument.{halfDecibels, argumentOf, argumentAnswer};
 ghost use Rattle.eqfile.specs.Code.{placeAnswer};
 
@@ -41,14 +39,6 @@ fn place_of(text: &[u8]) -> Place
     Place::At(24 + n)
 }
 
-// The decibels of a place, exactly: -12.0, -11.5, .. 12.0.
-fn decibels_at(i: u16) -> f32
-    requires { ⌜ i < 49 ⌝ }
-    ensures { λ r. ⌜ Half r (pos i -ℤ pos 24) ⌝ }
-{
-    (i as f32 - 24.0) * 0.5
-}
-
 // The gain of an argument's bytes.
 pub fn gain_of(text: &[u8]) -> Argument
     ensures { λ r. ⌜ argumentAnswer r ≡ argumentOf (now (text .entry)) ⌝ }
@@ -56,7 +46,7 @@ pub fn gain_of(text: &[u8]) -> Argument
     let Place::At(i) = place_of(text) else {
         return Argument::Refused;
     };
-    let Gained::Gain(g) = gain::gain(Command::Decibels(decibels_at(i))) else {
+    let Gained::Gain(g) = gain::gain(Command::Decibels(half_decibel(i))) else {
         return Argument::Refused;
     };
     Argument::Gain(g)

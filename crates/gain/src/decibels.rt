@@ -68,7 +68,7 @@ fn gain_at(i: usize) -> i32
 }
 
 // The half decibel of entry i, exactly: -12.0, -11.5, .. 12.0.
-fn half_decibel(i: u16) -> f32
+pub fn half_decibel(i: u16) -> f32
     requires { ⌜ i < 49 ⌝ }
     ensures { λ r. ⌜ Half r (pos i -ℤ pos 24) ⌝ }
 {

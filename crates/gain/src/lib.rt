@@ -6,6 +6,8 @@ ghost use Rattle.gain.specs.Promise.{answerTo};
 mod decibels;
 mod factor;
 
+pub use decibels::half_decibel;
+
 pub enum Command {
     Decibels(f32),
     Factor(f32),

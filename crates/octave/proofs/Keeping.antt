@@ -1,14 +1,12 @@
--- The memory: clearing it, the prepared one, and how a lent one is judged. Assumes nothing.
+-- The memory: the prepared one, and how a lent one is judged. Assumes nothing.
 use mathlib.Core.Path.{_≡_, refl, sym, ap, ap₂, subst, _∙_}
 use mathlib.Core.Bool.{Bool, true, false, cond}
 use mathlib.Core.List.{List, [], _∷_, _++_}
 use Prim.Native.Nat.{ℕ, zero, suc, _+_, _-_, _*_, _^_, _≤_, _<_}
 use native.Mathlib.Nat.{mul-sub, mul-one}
-use native.Mathlib.Numerals.{add-one}
 use native.Mathlib.Omega.{arith}
 use borrow.Author.Tests.{eq-eqb, ne-eqb, lt-ltb, le-ltb}
-use lib.ListN.{length, getD, take, set, replicate, replicate-append-replicate}
-use lib.Seq.{take-suc-set}
+use lib.ListN.{length, getD, set, replicate}
 use lib.IntN.{ℤ, pos, negsuc, natAbs}
 use lib.Signed.{ltZ, nonNeg, pos-natAbs}
 use lib.Dec.{T, ltb}
@@ -18,12 +16,7 @@ use Rattle.octave.specs.declared.memory.Kept.the-variants.{Bands, CountW
 use Rattle.octave.specs.Memory.{lineLength, memoryLength, countAllowed, positionWithin, prepared, prepareOf, PrepareDone, keptOf}
 use Rattle.octave.specs.Answer.{accepted, refused}
 
--- ---- clearing
-
-pub clear-more : (s : List ℤ) (i : ℕ) → i < length s → take i s ≡ replicate i (pos 0) → take (i + 1) (set s i (pos 0)) ≡ replicate (i + 1) (pos 0)
-clear-more s i h e =
-    ap (λ (k : ℕ). take k (set s i (pos 0))) (add-one i) ∙ take-suc-set s i (pos 0) h ∙ ap (λ (l : List ℤ). l ++ (pos 0 ∷ [])) e ∙
-    replicate-append-replicate i 1 (pos 0)
+-- ---- the prepared memory
 
 -- zeros with the count in front are the prepared memory
 pub prepared-is : (M : ℕ) {n : ℕ} → n ≡ memoryLength M → set (replicate n (pos 0)) 0 (pos M) ≡ prepared M

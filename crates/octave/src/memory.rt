@@ -1,12 +1,11 @@
 // The line memory: its length for a band count, and preparing it.
 ghost use mathlib.Core.Path.{_≡_};
-ghost use lib.ListN.{length, replicate};
-ghost use lib.IntN.{pos};
 ghost use Rattle.octave.specs.Answer.{lengthAnswer, preparedAnswer};
 ghost use Rattle.octave.specs.Memory.{memoryLengthOf, prepareOf, PrepareDone, keptOf};
 use crate::layout::line_length;
 use crate::layout::whole_length;
 use crate::range::within;
+use whole::places::clear;
 
 // How many places a memory has.
 pub enum Length {
@@ -37,17 +36,6 @@ pub fn memory_length(bands: i32) -> Length
         return Length::BandCount;
     }
     Length::Places(whole_length(bands as usize))
-}
-
-// Every place 0.
-fn clear(s: &mut [i32])
-    ensures { λ _. ⌜ now (s .exit) ≡ replicate (length (now (s .entry))) (pos 0) ⌝ }
-{
-    let mut i = 0;
-    while i < s.len() {
-        s[i] = 0;
-        i += 1;
-    }
 }
 
 // Fills the memory for an empty history and answers the delay.

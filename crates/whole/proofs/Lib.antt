@@ -9,3 +9,4 @@ pub mod Limit
 pub mod Rounded
 pub mod Limited
 pub mod Product
+pub mod Clearing

@@ -30,8 +30,8 @@ returns c =
     let call = c .before .before in
     no-argument (now (call .before .before .args .text)) (sym (ap placeAnswer (c .enum-told .given .1)) ∙ call .place-of .ensures)
 
-decibels-at-requires : tie.Need-decibels-at-requires
-decibels-at-requires c κs = place-inside (now (c .before .before .before .before .before .args .text)) (c .before .i .given .0 .0) (placed c)
+half-decibel-requires : tie.Need-half-decibel-requires
+half-decibel-requires c κs = place-inside (now (c .before .before .before .before .before .args .text)) (c .before .i .given .0 .0) (placed c)
 
 gain-requires : tie.Need-gain-requires
 gain-requires c κs = search needs
@@ -43,16 +43,16 @@ returns-2 : tie.Need-returns-2
 returns-2 c =
     let half = c .before .before in
     let place = half .before in
-    command-refuses (now (place .before .before .before .before .before .args .text)) (place .before .i .given .0 .0) (half .decibels-at .result) (placed place)
-    (half .decibels-at .ensures) (c .before .gain .result) (c .match2 .keys2) (c .before .gain .ensures)
+    command-refuses (now (place .before .before .before .before .before .args .text)) (place .before .i .given .0 .0) (half .half-decibel .result) (placed place)
+    (half .half-decibel .ensures) (c .before .gain .result) (c .match2 .keys2) (c .before .gain .ensures)
 
 returns-3 : tie.Need-returns-3
 returns-3 c =
     let call = c .before .before .before in
     let half = call .before in
     let place = half .before in
-    let whole = argument-gain (now (place .before .before .before .before .before .args .text)) (place .before .i .given .0 .0) (half .decibels-at .result) (placed place)
-    (half .decibels-at .ensures) (c .before .g .given .0 .0) (sym (ap answerOf (c .before .g .given .1)) ∙ call .gain .ensures) in
+    let whole = argument-gain (now (place .before .before .before .before .before .args .text)) (place .before .i .given .0 .0) (half .half-decibel .result) (placed place)
+    (half .half-decibel .ensures) (c .before .g .given .0 .0) (sym (ap answerOf (c .before .g .given .1)) ∙ call .gain .ensures) in
     ap accepted (toZ-ofZ (record { sfits = argument-small (now (place .before .before .before .before .before .args .text)) (c .before .g .given .0 .0) whole }))
     ∙ whole
 
@@ -64,7 +64,7 @@ gain-of-spec =
     enum-known-i
     enum-told
     returns
-    decibels-at-requires
+    half-decibel-requires
     gain-requires
     enum-known-g
     returns-2

@@ -1,14 +1,14 @@
--- `data::clear` meets its contract: the places up to i are 0. Assumes nothing.
+-- `places::clear` meets its contract: the places up to i are 0. Assumes nothing.
 use mathlib.Core.Path.{_≡_, refl, sym, ap, _∙_}
 use Prim.Native.Nat.{ℕ, _≤_, _-_}
 use native.Mathlib.Omega.{arith}
 use denote.Ref.{now}
-use Rattle.octave.proofs.Keeping.{clear-more}
+use Rattle.whole.proofs.Clearing.{clear-more}
 use lib.ListN.{length, take, replicate, length-set}
 use lib.Seq.{take-all}
 use lib.IntN.{pos}
-use Rattle.eqfile.proofs.data.clear.Statement.{statement}
-use Rattle.eqfile.proofs.data.clear.Tie as tie
+use Rattle.whole.proofs.places.clear.Statement.{statement}
+use Rattle.whole.proofs.places.clear.Tie as tie
 
 abbrev Inv-loop : tie.InvT-loop
 Inv-loop s₀ i₀ s i = (length s ≡ length s₀) × (i ≤ length s) × (take i s ≡ replicate i (pos 0))
@@ -19,11 +19,11 @@ abbrev μ-loop : tie.MeasureT-loop
 loop-holds : tie.Need-loop-holds Inv-loop μ-loop
 loop-holds c = (refl, omega arith, refl)
 
-mul-samples : tie.Need-mul-samples Inv-loop μ-loop
-mul-samples c = omega (arith, c .before .before .good)
+mul-s : tie.Need-mul-s Inv-loop μ-loop
+mul-s c = omega (arith, c .before .before .good)
 
-slice-set-of-samples : tie.Need-slice-set-of-samples Inv-loop μ-loop
-slice-set-of-samples c = c .loop-test .taken
+slice-set-of-s : tie.Need-slice-set-of-s Inv-loop μ-loop
+slice-set-of-s c = c .loop-test .taken
 
 add-i : tie.Need-add-i Inv-loop μ-loop
 add-i c = omega (arith, c .before .before .good)
@@ -34,7 +34,7 @@ loop-less c = simp length-set (omega arith)
 loop-again : tie.Need-loop-again Inv-loop μ-loop
 loop-again c =
     let l = c .before .loop in
-    (length-set (l .samples) (l .i) (pos 0) ∙ l .inv .0, simp length-set (omega arith), clear-more (l .samples) (l .i) (c .loop-test .taken) (l .inv .2))
+    (length-set (l .s) (l .i) (pos 0) ∙ l .inv .0, simp length-set (omega arith), clear-more (l .s) (l .i) (c .loop-test .taken) (l .inv .2))
 
 same-length : tie.Need-same-length Inv-loop μ-loop
 same-length c = c .before .loop .inv .0
@@ -42,10 +42,10 @@ same-length c = c .before .loop .inv .0
 returns : tie.Need-returns Inv-loop μ-loop
 returns c =
     let l = c .before .loop in
-    let all : l .i ≡ length (now (c .before .before .args .samples)) = omega arith in
-    sym (take-all (l .i) (l .samples) (c .loop-test .left)) ∙ l .inv .2 ∙ ap (λ (k : ℕ). replicate k (pos 0)) all
+    let all : l .i ≡ length (now (c .before .before .args .s)) = omega arith in
+    sym (take-all (l .i) (l .s) (c .loop-test .left)) ∙ l .inv .2 ∙ ap (λ (k : ℕ). replicate k (pos 0)) all
 
 pub clear-spec : {M : Type 1} → statement M
 clear-spec =
     tie.close
-    (tie.spec Inv-loop μ-loop loop-holds mul-samples slice-set-of-samples add-i loop-less loop-again same-length returns)
+    (tie.spec Inv-loop μ-loop loop-holds mul-s slice-set-of-s add-i loop-less loop-again same-length returns)
