@@ -76,7 +76,7 @@ pub fn half_decibel(i: u16) -> f32
 }
 
 // The gain of x decibels. Equality of floats takes -0.0 for 0, and a NaN for nothing.
-pub fn decibels(x: f32) -> Gained
+pub(crate) fn decibels(x: f32) -> Gained
     ensures { λ r. ⌜ answerOf r ≡ decibelsAnswer x ⌝ }
 {
     for i in 0..49 {

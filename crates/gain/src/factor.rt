@@ -6,7 +6,7 @@ ghost use Rattle.gain.specs.Factor.{factorAnswer};
 
 // A float times a power of two is exact, so the whole part of 8,192·x counts the half steps of gain in 4,096·x. Half of one
 // more, cut, is then the nearest gain, a tie upward. Only a NaN differs from itself.
-pub fn factor(x: f32) -> Gained
+pub(crate) fn factor(x: f32) -> Gained
     ensures { λ r. ⌜ answerOf r ≡ factorAnswer x ⌝ }
 {
     if x != x {

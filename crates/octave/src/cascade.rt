@@ -19,7 +19,7 @@ fn with_line(sum: i64, difference: i32, late: i32) -> i64
 
 // One sample through the lines of `bands` bands. The low sample goes to the same tree with one band fewer and the stretch
 // doubled, which works only in the rest of the lines, behind this one; the low sample of two bands is band 1 itself.
-pub fn step(
+pub(crate) fn step(
     lines: &mut [i32],
     size: usize,
     at: usize,

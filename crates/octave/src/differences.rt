@@ -17,7 +17,7 @@ fn difference(gains: &[i32], i: usize) -> i32
     gains[i]
 }
 
-pub fn differences(gains: &[i32]) -> [i32; 10]
+pub(crate) fn differences(gains: &[i32]) -> [i32; 10]
     requires { ⌜ (length (now gains) ≤ 10) × Allowed (length (now gains)) (now gains) ⌝ }
     ensures { λ r. ⌜ Differ (length (now (gains .entry))) (gainOf (now (gains .entry))) r × Small r ⌝ }
 {

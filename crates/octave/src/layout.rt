@@ -4,7 +4,7 @@ ghost use Prim.Native.Nat.{_≤_, _+_, _*_, _-_};
 ghost use Rattle.octave.specs.Memory.{lineLength, memoryLength};
 
 // The places of each line, 9·2^(bands-1).
-pub fn line_length(bands: usize) -> usize
+pub(crate) fn line_length(bands: usize) -> usize
     requires { ⌜ (2 ≤ bands) × (bands ≤ 10) ⌝ }
     ensures { λ r. ⌜ r ≡ lineLength bands ⌝ }
 {
@@ -12,7 +12,7 @@ pub fn line_length(bands: usize) -> usize
 }
 
 // The places of the whole memory.
-pub fn whole_length(bands: usize) -> usize
+pub(crate) fn whole_length(bands: usize) -> usize
     requires { ⌜ (2 ≤ bands) × (bands ≤ 10) ⌝ }
     ensures { λ r. ⌜ r ≡ memoryLength bands ⌝ }
 {

@@ -73,7 +73,7 @@ fn wrapped(line: &[i32], size: usize, at: usize, l: usize, x: i32) -> i64
 }
 
 // The new value of the line below.
-pub fn low_value(line: &[i32], size: usize, at: usize, l: usize, x: i32) -> i32
+pub(crate) fn low_value(line: &[i32], size: usize, at: usize, l: usize, x: i32) -> i32
     requires { ⌜ Within (now line) size at l ⌝ }
     ensures { λ r. ⌜ r ≡ lowValue published (now (line .entry)) size at l x ⌝ }
 {
@@ -84,7 +84,7 @@ pub fn low_value(line: &[i32], size: usize, at: usize, l: usize, x: i32) -> i32
 }
 
 // This line's aligned sample: the one size - 9·l back.
-pub fn aligned(line: &[i32], size: usize, at: usize, l: usize) -> i32
+pub(crate) fn aligned(line: &[i32], size: usize, at: usize, l: usize) -> i32
     requires { ⌜ Within (now line) size at l ⌝ }
     ensures { λ r. ⌜ r ≡ ago (now (line .entry)) size at (size - 9 * l) ⌝ }
 {

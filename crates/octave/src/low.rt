@@ -6,7 +6,7 @@ ghost use Rattle.octave.specs.Low.{Weighed};
 use whole::products::multiply_add;
 
 // c(0)·x0 + c(2)·x2 + .. + c(18)·x18: the samples at the coefficients that are not 0.
-pub fn weigh(
+pub(crate) fn weigh(
     x0: i32,
     x2: i32,
     x4: i32,

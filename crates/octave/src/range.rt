@@ -2,7 +2,7 @@
 ghost use mathlib.Core.Path.{_≡_};
 ghost use Rattle.octave.specs.Range.{within, allWithin};
 
-pub fn within(lo: i32, hi: i32, z: i32) -> bool
+pub(crate) fn within(lo: i32, hi: i32, z: i32) -> bool
     ensures { λ r. ⌜ r ≡ within lo hi z ⌝ }
 {
     if z < lo {
@@ -12,7 +12,7 @@ pub fn within(lo: i32, hi: i32, z: i32) -> bool
 }
 
 // Whether every number of a list is: looked at from the front, up to the first that is not.
-pub fn all_within(lo: i32, hi: i32, s: &[i32]) -> bool
+pub(crate) fn all_within(lo: i32, hi: i32, s: &[i32]) -> bool
     ensures { λ r. ⌜ r ≡ allWithin lo hi (now (s .entry)) ⌝ }
 {
     let mut i = 0;

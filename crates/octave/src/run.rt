@@ -38,7 +38,7 @@ fn answer(
 }
 
 // Every sample of the block, from the position `from`; answers the position afterwards.
-pub fn run(
+pub(crate) fn run(
     lines: &mut [i32],
     size: usize,
     from: usize,
