@@ -71,7 +71,7 @@ runOf (suc k) format samples at read s =
     record { read = take (t .wanted) s; input = replicate (t .fed) (pos 0); output = replicate (t .fed) (pos 0); stored = replicate (t .written) 0 } ∷
     runOf k format samples (at + t .fed) (read + length (take (t .wanted) s)) (drop (t .wanted) s)
 
-bytes-take : (n : ℕ) (s : List ℕ) → Bytes s → Bytes (take n s)
+pub bytes-take : (n : ℕ) (s : List ℕ) → Bytes s → Bytes (take n s)
 bytes-take zero s b i = omega arith
 bytes-take (suc n) [] b i = omega arith
 bytes-take (suc n) (x ∷ s) b zero = b 0

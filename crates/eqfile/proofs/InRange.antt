@@ -72,7 +72,7 @@ true-of : (t : Bool) → T t → t ≡ true
 true-of true h = refl
 true-of false h = absurd h
 
-out-in-range : (z : ℤ) → inRange (outOf z) ≡ true
+pub out-in-range : (z : ℤ) → inRange (outOf z) ≡ true
 unfolding inRange
 out-in-range z =
     limit-cases least24 most24 (nearest 4096 z) (λ w. (leZ least24 w && leZ w most24) ≡ true) (λ _. refl) (λ _. refl)

@@ -17,3 +17,4 @@ pub mod Accepting
 pub mod Allowing
 pub mod Program
 pub mod Asking
+pub mod GivenBack

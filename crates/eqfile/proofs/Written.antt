@@ -14,17 +14,15 @@ use lib.Signed.{_≤ℤ_}
 use borrow.Author.Tests.{le-leb}
 use Rattle.whole.specs.Limit.{limit, least24, most24}
 use Rattle.whole.specs.Nearest.{nearest}
-use Rattle.whole.proofs.Sums.{sum-ext}
 use Rattle.whole.proofs.Nearest.{nearest-exact}
 use Rattle.whole.proofs.Limit.{limit-id}
 use Rattle.tree.specs.Prototype.{published}
 use Rattle.tree.specs.Signal.{Signal, back, signalOf, gainOf}
-use Rattle.tree.specs.Tree.{line, heldBack, gainSum, output}
+use Rattle.tree.specs.Tree.{output}
 use Rattle.tree.proofs.EqualGains.{equal-gains}
-use Rattle.octave.specs.Run.{outOf}
 use Rattle.octave.specs.Memory.{prepared}
 use Rattle.octave.specs.History.{Call, played, AllAccepted, joined, carried, from}
-use Rattle.octave.proofs.WholeHistory.{from-at, whole-history, output-at, carried-here, carried-later}
+use Rattle.octave.proofs.WholeHistory.{from-at, whole-history, output-ext, output-at, carried-here, carried-later}
 use Rattle.gain.specs.Table.{entry, gains}
 use Rattle.wave.specs.Answer.{accepted}
 use Rattle.eqfile.specs.Argument.{halfDecibels, argumentOf}
@@ -59,14 +57,21 @@ zeros-after [] (suc k) (suc n) = zeros-after [] k n
 zeros-after (x ∷ xs) k zero = refl
 zeros-after (x ∷ xs) k (suc n) = zeros-after xs k n
 
-gains-at : (g h : ℕ → ℕ → ℤ) (x : Signal) (n : ℕ) → ((m : ℕ) → g n m ≡ h n m) → output published 8 g x n ≡ output published 8 h x n
-unfolding output gainSum
-gains-at g h x n e = ap outOf (sum-ext 8 (λ i _. ap (λ (z : ℤ). z *ℤ heldBack published 8 (line published 8 x) (suc i) n) (e (suc i))))
-
 pub from-long : (n k : ℕ) (f : ℕ → ℤ) → length (from n k f) ≡ k
 unfolding from
 from-long n zero f = refl
 from-long n (suc k) f = ap suc (from-long (n + 1) k f)
+
+-- gains of 4,096: output n + 1,143 is sample n
+pub unity-output : (gains : List ℤ) (x : Signal) → ((m : ℕ) → 1 ≤ m → m ≤ 8 → gainOf gains m ≡ pos 4096) → (n : ℕ) →
+    least24 ≤ℤ x n → x n ≤ℤ most24 → output published 8 (λ _. gainOf gains) x (n + late) ≡ x n
+unity-output gains x unity n lo hi =
+    equal-gains published 8 (pos 4096) (λ _. gainOf gains) x (n + late) (omega arith) unity ∙
+    ap (λ (z : ℤ). limit least24 most24 (nearest 4096 (pos 4096 *ℤ z))) delayed ∙
+    ap (limit least24 most24) (nearest-exact 4096 (omega arith) (x n)) ∙ limit-id least24 most24 (x n) lo hi
+  where
+    delayed : back x (n + late) late ≡ x n
+    delayed = rw (le-leb late (n + late) (omega arith)) (ap x (omega arith))
 
 -- ---- the theorem
 
@@ -79,7 +84,7 @@ module _ (gains xs : List ℤ) (cs : List Call) (all : AllAccepted (prepared 8) 
   written-is n h =
       let inside : late + n < length (joined cs) = omega (arith, long) in
       getD-drop late (played (prepared 8) cs .output) n (pos 0) ∙ output-at 8 (omega arith) (omega arith) cs all (late + n) inside ∙
-      gains-at (carried cs) (λ _. gainOf gains) (signalOf (joined cs)) (late + n) (λ m. carried-same gains cs same (late + n) m inside) ∙
+      output-ext 8 (carried cs) (λ _. gainOf gains) (signalOf (joined cs)) (late + n) (λ m. carried-same gains cs same (late + n) m inside) ∙
       ap (λ (x : Signal). output published 8 (λ _. gainOf gains) x (late + n)) (fun-ext (λ k. ap (λ (l : List ℤ). signalOf l k) fed ∙ zeros-after xs late k)) ∙
       ap (output published 8 (λ _. gainOf gains) (signalOf xs)) (add-comm late n)
 
@@ -97,13 +102,7 @@ module _ (gains xs : List ℤ) (cs : List Call) (all : AllAccepted (prepared 8) 
   -- gains of 4,096 give every sample back
   pub unity-gives-back : ((m : ℕ) → 1 ≤ m → m ≤ 8 → gainOf gains m ≡ pos 4096) → (n : ℕ) → n < length xs →
       least24 ≤ℤ signalOf xs n → signalOf xs n ≤ℤ most24 → getD (drop late (played (prepared 8) cs .output)) n (pos 0) ≡ getD xs n (pos 0)
-  unity-gives-back unity n h lo hi =
-      written-is n h ∙ equal-gains published 8 (pos 4096) (λ _. gainOf gains) (signalOf xs) (n + late) (omega arith) unity ∙
-      ap (λ (z : ℤ). limit least24 most24 (nearest 4096 (pos 4096 *ℤ z))) (delayed n) ∙
-      ap (limit least24 most24) (nearest-exact 4096 (omega arith) (signalOf xs n)) ∙ limit-id least24 most24 (signalOf xs n) lo hi
-    where
-      delayed : (n : ℕ) → back (signalOf xs) (n + late) late ≡ signalOf xs n
-      delayed n = rw (le-leb late (n + late) (omega arith)) (ap (signalOf xs) (omega arith))
+  unity-gives-back unity n h lo hi = written-is n h ∙ unity-output gains (signalOf xs) unity n lo hi
 
 -- ---- arguments all 0
 
@@ -112,8 +111,10 @@ pub noughts-are-unity : argumentsOf (replicate 8 (48 ∷ [])) ≡ accepted (repl
 unfolding argumentsOf eachGain argumentOf halfDecibels entry gains
 noughts-are-unity = refl
 
+pub all-unity : (m : ℕ) → 1 ≤ m → m ≤ 8 → gainOf (replicate 8 (pos 4096)) m ≡ pos 4096
+all-unity m l h = getD-replicate 8 (m - 1) (pos 4096) (pos 0) (omega arith)
+
 -- .. and give every sample in range back
 pub noughts-give-back : (xs : List ℤ) (cs : List Call) → AllAccepted (prepared 8) cs → SameGains (replicate 8 (pos 4096)) cs → joined cs ≡ followed xs → (n : ℕ) → n < length xs →
     least24 ≤ℤ signalOf xs n → signalOf xs n ≤ℤ most24 → getD (drop late (played (prepared 8) cs .output)) n (pos 0) ≡ getD xs n (pos 0)
-noughts-give-back xs cs all same fed =
-    unity-gives-back (replicate 8 (pos 4096)) xs cs all same fed (λ m l h. getD-replicate 8 (m - 1) (pos 4096) (pos 0) (omega arith))
+noughts-give-back xs cs all same fed = unity-gives-back (replicate 8 (pos 4096)) xs cs all same fed all-unity

@@ -37,7 +37,7 @@ from-at n (suc k) f zero h = ap f (sym (add-zero n))
 from-at n (suc k) f (suc i) h = from-at (n + 1) k f i (omega arith) ∙ ap f (omega arith)
 
 -- the output at n depends only on the gains of sample n
-output-ext : (M : ℕ) (g h : ℕ → ℕ → ℤ) (x : Signal) (n : ℕ) → ((m : ℕ) → g n m ≡ h n m) → output published M g x n ≡ output published M h x n
+pub output-ext : (M : ℕ) (g h : ℕ → ℕ → ℤ) (x : Signal) (n : ℕ) → ((m : ℕ) → g n m ≡ h n m) → output published M g x n ≡ output published M h x n
 unfolding output gainSum
 output-ext M g h x n e = ap outOf (sum-ext M (λ i _. ap (λ (z : ℤ). z *ℤ heldBack published M (line published M x) (suc i) n) (e (suc i))))
 

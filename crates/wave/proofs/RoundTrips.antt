@@ -69,16 +69,20 @@ sample-bytes-sample z buffer range three =
     ∙ sym (from-three bytes z (length-little 3 (codeOf z)) (sym (ap (numberOf 24) (number-little-3 (codeOf z) (code-below z range)) ∙ number-code z range)))
 
 -- every three bytes to a sample and back are themselves
+pub same-bytes : (s : List ℕ) → length s ≡ 3 → Bytes s → little 3 (codeOf (sampleIn Bits24 s)) ≡ s
+unfolding sampleIn
+same-bytes s three bytes =
+    ap (little 3) (code-number (number s) (number-below s three bytes)) ∙ ap (λ (k : ℕ). little k (number s)) (sym three) ∙ little-number s bytes
+
+-- .. and by the calls
 pub bytes-sample-bytes :
     (s buffer : List ℕ) → length s ≡ 3 → Bytes s → length buffer ≡ 3
     → (fromBytes s ≡ accepted (sampleIn Bits24 s)) × (toBytes (sampleIn Bits24 s) buffer ≡ (accepted 3, s))
 unfolding sampleIn
 bytes-sample-bytes s buffer three bytes room =
-    let below = number-below s three bytes in
-    let same-bytes : little 3 (codeOf (numberOf 24 (number s))) ≡ s =
-    ap (little 3) (code-number (number s) below) ∙ ap (λ (k : ℕ). little k (number s)) (sym three) ∙ little-number s bytes in (
+    let below = number-below s three bytes in (
       sym (from-three s (numberOf 24 (number s)) three refl),
-      sym (to-three (numberOf 24 (number s)) buffer s room (number-in-range (number s) below) (sym same-bytes)),
+      sym (to-three (numberOf 24 (number s)) buffer s room (number-in-range (number s) below) (sym (same-bytes s three bytes))),
     )
 
 -- ── headers ────────────────────────────────────────────────────────────────────────────────────

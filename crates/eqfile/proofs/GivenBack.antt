@@ -1,0 +1,119 @@
+-- What a run writes is read back as its outputs; and eight noughts give the data of a 24-bit file back, byte for byte. Both whatever the
+-- pieces it was read in. Assumes nothing.
+use mathlib.Core.Path.{_≡_, refl, sym, ap, ap₂, _∙_}
+use mathlib.Core.Bool.{true}
+use mathlib.Core.List.{List, [], _∷_, _++_, append-nil}
+use Prim.Native.Nat.{ℕ, zero, suc, _+_, _-_, _*_, _/_, _≤_, _<_, min}
+use native.Mathlib.Nat.{add-comm}
+use native.Mathlib.Omega.{arith}
+use lib.ListN.{length, getD, take, drop, replicate, length-drop, take-append-drop}
+use lib.Seq.{getD-drop, ext-getD, length-take-le}
+use lib.IntN.{ℤ, pos}
+use Rattle.whole.specs.Limit.{least24, most24}
+use Rattle.whole.proofs.Signed.{var, le-by}
+use Rattle.tree.specs.Prototype.{published}
+use Rattle.tree.specs.Signal.{Signal, signalOf, gainOf}
+use Rattle.tree.specs.Tree.{line, gainSum, output}
+use Rattle.octave.specs.Range.{allWithin}
+use Rattle.octave.specs.Memory.{prepared}
+use Rattle.octave.specs.History.{from}
+use Rattle.octave.proofs.Ranges.{all-at, within-parts}
+use Rattle.octave.proofs.WholeHistory.{from-at}
+use Rattle.wave.specs.Answer.{accepted}
+use Rattle.wave.specs.Block.{sizeOf, samplesOf, bytesOf, allInRange}
+use Rattle.wave.specs.declared.format.Format.{Format}
+use Rattle.wave.specs.declared.format.Format.the-variants.{Bits24}
+use Rattle.wave.proofs.RoundTrips.{Bytes, same-bytes}
+use Rattle.wave.proofs.Singles.{block-there-and-back}
+use Rattle.eqfile.specs.Arguments.{argumentsOf}
+use Rattle.eqfile.specs.Data.{samplesFrom}
+use Rattle.eqfile.specs.Turn.{late, turnOf}
+use Rattle.eqfile.specs.Program.{Turned, Turns, handed, programWrites}
+use Rattle.eqfile.proofs.Asking.{bytes-take}
+use Rattle.eqfile.proofs.Joins.{length-from}
+use Rattle.eqfile.proofs.InRange.{from-within, out-in-range}
+use Rattle.eqfile.proofs.Written.{from-long, unity-output, noughts-are-unity, all-unity}
+use Rattle.eqfile.proofs.Program.{program-writes, program-length}
+
+-- ---- samples
+
+-- outputs 1,143 and on of samples in range are the samples
+outputs-back : (xs : List ℤ) → allWithin least24 most24 xs ≡ true →
+    from late (length xs) (output published 8 (λ _. gainOf (replicate 8 (pos 4096))) (signalOf xs)) ≡ xs
+outputs-back xs e =
+    let f = output published 8 (λ _. gainOf (replicate 8 (pos 4096))) (signalOf xs) in
+    let long = from-long late (length xs) f in
+    ext-getD (pos 0) (from late (length xs) f) xs long
+    (λ n h.
+    let i : n < length xs = omega arith in
+    let z = getD xs n (pos 0) in
+    let r = within-parts least24 most24 z (all-at least24 most24 xs e n i) in
+    from-at late (length xs) f n i ∙ ap f (add-comm late n) ∙
+    unity-output (replicate 8 (pos 4096)) (signalOf xs) all-unity n (le-by (var least24) (var z) (r .0)) (le-by (var z) (var most24) (r .1)))
+
+-- ---- bytes
+
+bytes-drop : (n : ℕ) (s : List ℕ) → Bytes s → Bytes (drop n s)
+bytes-drop n s b i = rw (getD-drop n s i 0) (b (n + i))
+
+-- whole samples to numbers and back
+bytes-back : (n : ℕ) (s : List ℕ) → Bytes s → length s ≡ 3 * n → bytesOf (samplesOf n Bits24 s) ≡ s
+unfolding samplesOf bytesOf
+bytes-back zero [] b e = refl
+bytes-back zero (x ∷ s) b e = absurd (omega arith)
+bytes-back (suc n) s b e =
+    ap₂ _++_ (same-bytes (take 3 s) (length-take-le 3 s (omega arith)) (bytes-take 3 s b)) (bytes-back n (drop 3 s) (bytes-drop 3 s b) (length-drop 3 s ∙ omega arith)) ∙
+    take-append-drop 3 s
+
+-- all samples are wholly there
+all-there : (samples : ℕ) (s : List ℕ) → length s ≡ 3 * samples → samplesFrom samples Bits24 s ≡ samplesOf samples Bits24 s
+unfolding samplesFrom
+all-there samples s e =
+    let k : min (length s / 3) samples ≡ samples = omega arith in
+    let none : samples - samples ≡ 0 = omega arith in
+    ap (λ (k : ℕ). samplesOf k Bits24 s ++ replicate (samples - k) (pos 0)) k ∙ ap (λ (k : ℕ). samplesOf samples Bits24 s ++ replicate k (pos 0)) none ∙
+    append-nil (samplesOf samples Bits24 s)
+
+-- what turns hand over are bytes
+bytes-append : (s t : List ℕ) → Bytes s → Bytes t → Bytes (s ++ t)
+bytes-append [] t b c i = c i
+bytes-append (x ∷ s) t b c zero = b 0
+bytes-append (x ∷ s) t b c (suc i) = bytes-append s t (λ j. b (suc j)) c i
+
+bytes-handed : (format : Format) (samples at read : ℕ) (us : List Turned) → Turns format samples at read us → Bytes (handed us)
+unfolding Turns handed
+bytes-handed format samples at read [] h = λ i. omega arith
+bytes-handed format samples at read (u ∷ us) h =
+    let t = turnOf (sizeOf format) samples at read in
+    bytes-append (u .read) (handed us) (h .0 .bytes) (bytes-handed format samples (at + t .fed) (read + length (u .read)) us (h .1))
+
+-- ---- the theorems
+
+outputs-in-range : (g : ℕ → ℕ → ℤ) (x : Signal) (n k : ℕ) → allInRange (from n k (output published 8 g x)) ≡ true
+unfolding from allInRange output
+outputs-in-range g x n zero = refl
+outputs-in-range g x n (suc k) = rw (out-in-range (gainSum published 8 g (line published 8 x) n)) (outputs-in-range g x (n + 1) k)
+
+-- 01: "what we write, we read back the same"; the header before it is read back whatever follows, `header-read-back`
+pub outputs-read-back : (texts : List (List ℕ)) (gains : List ℤ) → argumentsOf texts ≡ accepted gains → (format : Format) (samples : ℕ) (us : List Turned) →
+    Turns format samples 0 0 us →
+    samplesFrom samples Bits24 (programWrites gains format samples 0 0 (prepared 8) us) ≡
+    from late samples (output published 8 (λ _. gainOf gains) (signalOf (samplesFrom samples format (handed us))))
+outputs-read-back texts gains taken format samples us turns =
+    let x = signalOf (samplesFrom samples format (handed us)) in
+    let os = from late samples (output published 8 (λ _. gainOf gains) x) in
+    let w = programWrites gains format samples 0 0 (prepared 8) us in
+    all-there samples w (program-length texts gains taken format samples us turns) ∙
+    ap₂ (λ (n : ℕ) (s : List ℕ). samplesOf n Bits24 s) (sym (from-long late samples (output published 8 (λ _. gainOf gains) x))) (program-writes texts gains taken format samples us turns) ∙
+    block-there-and-back os (outputs-in-range (λ _. gainOf gains) x late samples)
+
+pub noughts-write-back : (samples : ℕ) (us : List Turned) → Turns Bits24 samples 0 0 us → length (handed us) ≡ 3 * samples →
+    programWrites (replicate 8 (pos 4096)) Bits24 samples 0 0 (prepared 8) us ≡ handed us
+noughts-write-back samples us turns all =
+    let xs = samplesFrom samples Bits24 (handed us) in
+    let bytes = bytes-handed Bits24 samples 0 0 us turns in
+    program-writes (replicate 8 (48 ∷ [])) (replicate 8 (pos 4096)) noughts-are-unity Bits24 samples us turns ∙
+    ap bytesOf
+    (ap (λ (k : ℕ). from late k (output published 8 (λ _. gainOf (replicate 8 (pos 4096))) (signalOf xs))) (sym (length-from samples Bits24 (handed us))) ∙
+    outputs-back xs (from-within samples Bits24 (handed us) bytes) ∙ all-there samples (handed us) all) ∙
+    bytes-back samples (handed us) bytes all
