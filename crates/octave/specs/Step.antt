@@ -30,7 +30,7 @@ module _ (p : Prototype) where
         aligned = late;
       }
 
--- what the step asks: the position within the lines, the lines' size for the bands left, just those lines, allowed gains
+-- what the step asks: the position within the lines, the lines' size for the bands left, and just those lines
 pub record Region (p : Prototype) (bands size at L : ℕ) (lines : List ℤ) : Type 0 where
   pub some : 1 ≤ bands
   pub few : bands ≤ 10

@@ -17,6 +17,7 @@ fn difference(gains: &[i32], i: usize) -> i32
     gains[i]
 }
 
+// One for each gain, lowest first; zeros behind them.
 pub(crate) fn differences(gains: &[i32]) -> [i32; 10]
     requires { ⌜ (length (now gains) ≤ 10) × Allowed (length (now gains)) (now gains) ⌝ }
     ensures { λ r. ⌜ Differ (length (now (gains .entry))) (gainOf (now (gains .entry))) r × Small r ⌝ }
