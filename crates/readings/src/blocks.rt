@@ -105,7 +105,7 @@ fn call(gains: &[i32], input: &[i32], places: usize) {
 }
 
 // 3: the count.
-pub fn counts() {
+pub(crate) fn counts() {
     place(0, -2147483648);
     place(0, -2);
     place(0, 0);
@@ -118,7 +118,7 @@ pub fn counts() {
 }
 
 // 3: the position.
-pub fn positions() {
+pub(crate) fn positions() {
     place(1, -2147483648);
     place(1, -1);
     place(1, 0);
@@ -128,7 +128,7 @@ pub fn positions() {
 }
 
 // 3: the length.
-pub fn places() {
+pub(crate) fn places() {
     length(2, 0);
     length(2, 1);
     length(2, 2);
@@ -149,7 +149,7 @@ fn gain(g: i32) {
 }
 
 // 4 and 5.
-pub fn gains() {
+pub(crate) fn gains() {
     call(&[], &PAIR, 2);
     call(&[4096], &PAIR, 2);
     call(&BOTH, &PAIR, 2);
@@ -180,7 +180,7 @@ fn long(samples: usize) {
 }
 
 // 6 to 8, and an empty block.
-pub fn samples() {
+pub(crate) fn samples() {
     call(&BOTH, &PAIR, 0);
     call(&BOTH, &PAIR, 1);
     call(&BOTH, &PAIR, 3);
@@ -248,7 +248,7 @@ fn faulty(faults: usize) {
 }
 
 // Any faults together: the earliest number is given.
-pub fn all_faults() {
+pub(crate) fn all_faults() {
     for faults in 0..64 {
         faulty(faults);
     }

@@ -191,7 +191,7 @@ fn signals(memory: &mut [i32], bands: i32, count: usize) {
     course(memory, bands, count, Signal::Telegraph);
 }
 
-pub fn courses() {
+pub(crate) fn courses() {
     let mut two = [0i32; 20];
     signals(&mut two, 2, 2);
     let mut three = [0i32; 74];
@@ -241,7 +241,7 @@ fn positions(memory: &mut [i32], bands: i32, count: usize, last: i32, beyond: i3
 }
 
 // From the first position, from the last, and from the one beyond it, which is refused.
-pub fn any_places() {
+pub(crate) fn any_places() {
     let mut two = [0i32; 20];
     positions(&mut two, 2, 2, 17, 18);
     let mut three = [0i32; 74];

@@ -12,26 +12,26 @@ fn least(a: usize, b: usize) -> usize
 }
 
 // How many of the first n places a list has.
-pub fn front(n: usize, s: &[i32]) -> usize
+pub(crate) fn front(n: usize, s: &[i32]) -> usize
     ensures { λ r. ⌜ Front r (now (s .entry)) ⌝ }
 {
     least(n, s.len())
 }
 
-pub fn fill(s: &mut [i32], value: i32) {
+pub(crate) fn fill(s: &mut [i32], value: i32) {
     for i in 0..s.len() {
         s[i] = value;
     }
 }
 
 // One place, if there is such a place.
-pub fn put(s: &mut [i32], at: usize, value: i32) {
+pub(crate) fn put(s: &mut [i32], at: usize, value: i32) {
     if at < s.len() {
         s[at] = value;
     }
 }
 
-pub fn keep(from: &[i32], to: &mut [i32]) {
+pub(crate) fn keep(from: &[i32], to: &mut [i32]) {
     let n = least(from.len(), to.len());
     for i in 0..n {
         to[i] = from[i];
@@ -45,7 +45,7 @@ fn one_if_changed(x: i32, y: i32) -> usize
 }
 
 // How many places differ, as far as both lists go.
-pub fn changed(a: &[i32], b: &[i32]) -> usize {
+pub(crate) fn changed(a: &[i32], b: &[i32]) -> usize {
     let n = least(a.len(), b.len());
     let mut k: usize = 0;
     for i in 0..n {
@@ -55,7 +55,7 @@ pub fn changed(a: &[i32], b: &[i32]) -> usize {
 }
 
 // A place's distance from the least number of 32 bits.
-pub fn above_least(z: i32) -> u64
+pub(crate) fn above_least(z: i32) -> u64
     ensures { λ r. ⌜ r < 2 ^ 32 ⌝ }
 {
     ((z as i64) + 2147483648) as u64
@@ -69,7 +69,7 @@ fn added(sum: u64, i: usize, z: i32) -> u64
 }
 
 // Every place counts, each with a weight of its index.
-pub fn total(s: &[i32]) -> u64 {
+pub(crate) fn total(s: &[i32]) -> u64 {
     let mut sum: u64 = 0;
     for i in 0..s.len() {
         sum = added(sum, i, s[i]);

@@ -44,7 +44,7 @@ fn at(bands: i32, places: usize) {
     in_front(bands, places, &mut memory, &mut marked);
 }
 
-pub fn lengths() {
+pub(crate) fn lengths() {
     length(-2147483648);
     length(-1);
     length(0);
@@ -62,7 +62,7 @@ pub fn lengths() {
     length(2147483647);
 }
 
-pub fn counts() {
+pub(crate) fn counts() {
     at(-2147483648, 20);
     at(-1, 20);
     at(0, 20);
@@ -74,7 +74,7 @@ pub fn counts() {
     at(2147483647, 20);
 }
 
-pub fn places() {
+pub(crate) fn places() {
     at(2, 0);
     at(2, 1);
     at(2, 19);

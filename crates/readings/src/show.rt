@@ -5,11 +5,11 @@ use octave::block::Blocked;
 use octave::memory::Length;
 use octave::memory::Prepared;
 
-pub fn word(text: &[u8]) {
+pub(crate) fn word(text: &[u8]) {
     io::write_all(1, text);
 }
 
-pub fn number(z: i32) {
+pub(crate) fn number(z: i32) {
     let above = above_least(z);
     if above < 2147483648 {
         word(b" -");
@@ -20,7 +20,7 @@ pub fn number(z: i32) {
     }
 }
 
-pub fn count(n: usize) {
+pub(crate) fn count(n: usize) {
     word(b" ");
     io::print_decimal(1, n as u64);
 }
@@ -31,13 +31,13 @@ fn each(s: &[i32]) {
     }
 }
 
-pub fn sum(s: &[i32]) {
+pub(crate) fn sum(s: &[i32]) {
     word(b" ");
     io::print_decimal(1, total(s));
 }
 
 // How many places, and each of them, or their total if they are many.
-pub fn list(s: &[i32]) {
+pub(crate) fn list(s: &[i32]) {
     count(s.len());
     if s.len() <= 40 {
         each(s);
@@ -47,7 +47,7 @@ pub fn list(s: &[i32]) {
     }
 }
 
-pub fn length(answer: Length) {
+pub(crate) fn length(answer: Length) {
     match answer {
         Length::Places(n) => {
             word(b" places");
@@ -57,7 +57,7 @@ pub fn length(answer: Length) {
     }
 }
 
-pub fn prepared(answer: Prepared) {
+pub(crate) fn prepared(answer: Prepared) {
     match answer {
         Prepared::Delay(n) => {
             word(b" delay");
@@ -68,7 +68,7 @@ pub fn prepared(answer: Prepared) {
     }
 }
 
-pub fn blocked(answer: Blocked) {
+pub(crate) fn blocked(answer: Blocked) {
     match answer {
         Blocked::Written(n) => {
             word(b" written");
