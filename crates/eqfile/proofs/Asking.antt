@@ -15,7 +15,7 @@ use Rattle.wave.specs.Block.{sizeOf}
 use Rattle.wave.specs.declared.format.Format.{Format}
 use Rattle.wave.specs.declared.format.Format.the-variants.{Bits16, Bits24}
 use Rattle.wave.proofs.RoundTrips.{Bytes}
-use Rattle.eqfile.specs.Turn.{fedInAll, wantedOf, turnOf}
+use Rattle.eqfile.specs.Turn.{longest, fedInAll, wantedOf, turnOf}
 use Rattle.eqfile.specs.Program.{Turned, Turns, handed}
 use Rattle.eqfile.proofs.Pieces.{no-length}
 
@@ -60,6 +60,24 @@ all-from format samples at read (u ∷ us) e h n =
 -- then all bytes of the file's samples are read
 pub all-handed : (format : Format) (samples : ℕ) (us : List Turned) → Turns format samples 0 0 us → NoneShort format samples 0 0 us → length (handed us) ≡ sizeOf format * samples
 all-handed format samples us h n = omega (arith, all-from format samples 0 0 us (start (sizeOf format) samples) h n)
+
+-- ---- the front
+
+-- what of the data came with the front goes into the first block: that wants all of the data, or more bytes than a front has
+pub front-goes-first : (format : Format) (samples n : ℕ) → n ≤ 4096 →
+    (turnOf (sizeOf format) samples 0 0 .wanted ≡ sizeOf format * samples) ⊎ (n ≤ turnOf (sizeOf format) samples 0 0 .wanted)
+unfolding turnOf
+front-goes-first format samples n h = by format (decLt 4096 samples)
+  where
+    first : (format : Format) → turnOf (sizeOf format) samples 0 0 .wanted ≡ sizeOf format * min (min longest (fedInAll samples - 0)) (samples - 0)
+    first format = wanted-is (sizeOf format) samples 0 0 (min longest (fedInAll samples - 0)) (start (sizeOf format) samples)
+
+    by : (format : Format) → Dec (4096 < samples) →
+        (turnOf (sizeOf format) samples 0 0 .wanted ≡ sizeOf format * samples) ⊎ (n ≤ turnOf (sizeOf format) samples 0 0 .wanted)
+    by Bits16 (yes l) = inr (omega (arith, first Bits16))
+    by Bits24 (yes l) = inr (omega (arith, first Bits24))
+    by Bits16 (no l) = inl (first Bits16 ∙ omega arith)
+    by Bits24 (no l) = inl (first Bits24 ∙ omega arith)
 
 -- ---- any data
 
