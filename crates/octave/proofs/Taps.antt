@@ -2,7 +2,7 @@
 use mathlib.Core.Path.{_≡_, refl, sym, ap, subst, _∙_}
 use mathlib.Core.List.{List}
 use Prim.Native.Nat.{ℕ, zero, suc, _+_, _-_, _*_, _≤_, _<_, _^_}
-use native.Mathlib.Nat.{mul-comm, mul-le-mul-right}
+use native.Mathlib.Nat.{mul-comm}
 use native.Mathlib.Omega.{arith}
 use borrow.Author.Tests.{le-leb, lt-leb}
 use lib.Dec.{lit<, lit≤}
@@ -68,31 +68,33 @@ summed line size at L x {r} d0 d2 d4 d6 d8 d9 d10 d12 d14 d16 d18 w =
 
 -- ---- the places of the taps
 
-pub straight-tap : (line : List ℤ) (size at L : ℕ) (x : ℤ) (i : ℕ) → 1 ≤ i → i ≤ 18 → 18 * L ≤ at → getD line (at - i * L) (pos 0) ≡ tap line size at L x i
-unfolding tap
-straight-tap line size at L x zero s h k = absurd (omega arith)
-straight-tap line size at L x (suc i) s h k =
-    rw (le-leb (L * suc i) at (omega (arith, mul-le-mul-right L h, mul-comm L (suc i)))) (ap (λ (d : ℕ). getD line (at - d) (pos 0)) (mul-comm (suc i) L))
-
 pub read-new : (line : List ℤ) (size at L : ℕ) {x : ℤ} → SFits w32 x → Read x (tap line size at L x 0)
 unfolding tap
 read-new line size at L f = record { fits = f .sfits; value = refl }
 
--- in a window that starts 18·L back, k places up is i taps back
-pub read-window : (line : List ℤ) (size at L : ℕ) (x : ℤ) → 18 * L ≤ at → at < length line → (i k : ℕ) → 1 ≤ i → i ≤ 18 → k + i * L ≡ 18 * L → let window = take (length line - (at - 18 * L)) (drop (at - 18 * L) line) in mag (getD window k (pos 0)) < 2 ^ 31 → Read (getD window k (pos 0)) (tap line size at L x i)
-read-window line size at L x reach inside i k s h e f =
-    record {
-      fits = f;
-      value =
-          getD-take (length line - (at - 18 * L)) (drop (at - 18 * L) line) k (pos 0) (omega arith) ∙ getD-drop (at - 18 * L) line k (pos 0) ∙
-          ap (λ (j : ℕ). getD line j (pos 0)) (omega arith) ∙ straight-tap line size at L x i s h reach;
-    }
+-- where a sample stands that does not wrap, and one that does
+pub place-back : (size at d : ℕ) → d ≤ at → at - d ≡ place size at d
+place-back size at d h = rw (le-leb d at h)
 
-pub read-wrapped : (line : List ℤ) (size at L : ℕ) (x : ℤ) (i k : ℕ) → 1 ≤ i → k ≡ place size at (i * L) → mag (getD line k (pos 0)) < 2 ^ 31 → Read (getD line k (pos 0)) (tap line size at L x i)
-unfolding tap
-read-wrapped line size at L x zero k s e f = absurd (omega arith)
-read-wrapped line size at L x (suc i) k s e f =
-    record { fits = f; value = ap (λ (j : ℕ). getD line j (pos 0)) (e ∙ ap (place size at) (mul-comm (suc i) L)) }
+pub place-round : (size at d : ℕ) → at < d → at + size - d ≡ place size at d
+place-round size at d h = rw (lt-leb d at h)
+
+module _ (line : List ℤ) (size at L : ℕ) (x : ℤ) where
+  -- at the place of the sample i taps back
+  pub read-place : (i k : ℕ) → 1 ≤ i → k ≡ place size at (i * L) → mag (getD line k (pos 0)) < 2 ^ 31 → Read (getD line k (pos 0)) (tap line size at L x i)
+  unfolding tap
+  read-place zero k s e f = absurd (omega arith)
+  read-place (suc i) k s e f =
+      record { fits = f; value = ap (λ (j : ℕ). getD line j (pos 0)) (e ∙ ap (place size at) (mul-comm (suc i) L)) }
+
+  -- .. k places up in a window of the line
+  pub read-window : (from i k : ℕ) → 1 ≤ i → from + k < length line → from + k ≡ place size at (i * L) →
+      let window = take (length line - from) (drop from line) in mag (getD window k (pos 0)) < 2 ^ 31 → Read (getD window k (pos 0)) (tap line size at L x i)
+  read-window from i k s inside e f =
+      let same : getD (take (length line - from) (drop from line)) k (pos 0) ≡ getD line (from + k) (pos 0) =
+      getD-take (length line - from) (drop from line) k (pos 0) (omega arith) ∙ getD-drop from line k (pos 0) in
+      let r = read-place i (from + k) s e (rw same at f) in
+      record { fits = f; value = same ∙ r .value }
 
 -- ---- from the sum to the line's new value
 

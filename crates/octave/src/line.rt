@@ -42,28 +42,51 @@ fn straight(line: &[i32], size: usize, at: usize, l: usize, x: i32) -> i64
     )
 }
 
-// The sum where a tap wraps.
-fn wrapped(line: &[i32], size: usize, at: usize, l: usize, x: i32) -> i64
-    requires { ⌜ Within (now line) size at l ⌝ }
+// The sum where the sample 9·l back wraps: so does every older one, and a window from the oldest on has them.
+fn near_wraps(line: &[i32], size: usize, at: usize, l: usize, x: i32) -> i64
+    requires { ⌜ Within (now line) size at l × (at < 9 * l) ⌝ }
     ensures { λ r. ⌜ Summed published (now (line .entry)) size at l x r ⌝ }
 {
+    let from = at + size - 18 * l;
+    let window = &line[from..];
     let p2 = place(size, at, 2 * l);
     let p4 = place(size, at, 4 * l);
     let p6 = place(size, at, 6 * l);
     let p8 = place(size, at, 8 * l);
-    let p9 = place(size, at, 9 * l);
-    let p10 = place(size, at, 10 * l);
-    let p12 = place(size, at, 12 * l);
-    let p14 = place(size, at, 14 * l);
-    let p16 = place(size, at, 16 * l);
-    let p18 = place(size, at, 18 * l);
     weigh(
         x,
         line[p2],
         line[p4],
         line[p6],
         line[p8],
-        line[p9],
+        window[9 * l],
+        window[8 * l],
+        window[6 * l],
+        window[4 * l],
+        window[2 * l],
+        window[0],
+    )
+}
+
+// The sum where none but older ones may wrap, and the oldest does.
+fn far_wraps(line: &[i32], size: usize, at: usize, l: usize, x: i32) -> i64
+    requires { ⌜ Within (now line) size at l × (9 * l ≤ at) × (at < 18 * l) ⌝ }
+    ensures { λ r. ⌜ Summed published (now (line .entry)) size at l x r ⌝ }
+{
+    let from = at - 9 * l;
+    let window = &line[from..];
+    let p10 = place(size, at, 10 * l);
+    let p12 = place(size, at, 12 * l);
+    let p14 = place(size, at, 14 * l);
+    let p16 = place(size, at, 16 * l);
+    let p18 = at + size - 18 * l;
+    weigh(
+        x,
+        window[7 * l],
+        window[5 * l],
+        window[3 * l],
+        window[l],
+        window[0],
         line[p10],
         line[p12],
         line[p14],
@@ -72,15 +95,18 @@ fn wrapped(line: &[i32], size: usize, at: usize, l: usize, x: i32) -> i64
     )
 }
 
-// The new value of the line below.
+// The new value of the line below. The usual path comes last: it then runs on without a jump.
 pub(crate) fn low_value(line: &[i32], size: usize, at: usize, l: usize, x: i32) -> i32
     requires { ⌜ Within (now line) size at l ⌝ }
     ensures { λ r. ⌜ r ≡ lowValue published (now (line .entry)) size at l x ⌝ }
 {
-    if 18 * l <= at {
-        return limit_32(nearest_100000(straight(line, size, at, l, x)));
+    if at < 9 * l {
+        return limit_32(nearest_100000(near_wraps(line, size, at, l, x)));
     }
-    limit_32(nearest_100000(wrapped(line, size, at, l, x)))
+    if at < 18 * l {
+        return limit_32(nearest_100000(far_wraps(line, size, at, l, x)));
+    }
+    limit_32(nearest_100000(straight(line, size, at, l, x)))
 }
 
 // This line's aligned sample: the one size - 9·l back.

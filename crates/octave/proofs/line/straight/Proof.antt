@@ -1,10 +1,10 @@
 -- `line::straight` meets its contract: what is read without a wrap is what the page weighs. Assumes nothing.
-use Prim.Native.Nat.{_<_, _*_}
+use Prim.Native.Nat.{_<_, _-_, _*_}
 use native.Mathlib.Omega.{arith}
 use lib.Dec.{lit≤}
 use lib.ListN.{length}
 use denote.Ref.{now}
-use Rattle.octave.proofs.Taps.{summed, read-new, read-window}
+use Rattle.octave.proofs.Taps.{summed, read-new, place-back, read-window}
 use borrow.Author.Needs.{needs}
 use Rattle.octave.proofs.line.straight.Statement.{statement}
 use Rattle.octave.proofs.line.straight.Tie as tie
@@ -114,26 +114,25 @@ shared-slice-copy-out-weigh-10 c = search needs
 weigh-requires : tie.Need-weigh-requires
 weigh-requires c κs = search needs
 
-inside : (s : tie.Start) → s .args .at < length (now (s .args .line))
-inside s = omega (arith, s .pre .0 .inside, s .pre .0 .held)
-
 returns : tie.Need-returns
 returns c =
     let s = c .before .before .before .before .before .before .before .before .before .before .before .before in
     let a = s .args in
     let line = now (a .line) in
-    let read = read-window line (a .size) (a .at) (a .l) (a .x) (s .pre .1) (inside s) in
+    let inside : a .at < length line = omega (arith, s .pre .0 .inside, s .pre .0 .held) in
+    let read = read-window line (a .size) (a .at) (a .l) (a .x) (a .at - 18 * a .l) in
+    let back = place-back (a .size) (a .at) in
     summed line (a .size) (a .at) (a .l) (a .x) (read-new line (a .size) (a .at) (a .l) (s .fits .x))
-    (read 2 (16 * a .l) (lit≤ tt) (lit≤ tt) (omega arith) (c .before .before .before .before .before .before .before .before .before .before .weigh-arg .given))
-    (read 4 (14 * a .l) (lit≤ tt) (lit≤ tt) (omega arith) (c .before .before .before .before .before .before .before .before .before .weigh-arg2 .given))
-    (read 6 (12 * a .l) (lit≤ tt) (lit≤ tt) (omega arith) (c .before .before .before .before .before .before .before .before .weigh-arg3 .given))
-    (read 8 (10 * a .l) (lit≤ tt) (lit≤ tt) (omega arith) (c .before .before .before .before .before .before .before .weigh-arg4 .given))
-    (read 9 (9 * a .l) (lit≤ tt) (lit≤ tt) (omega arith) (c .before .before .before .before .before .before .weigh-arg5 .given))
-    (read 10 (8 * a .l) (lit≤ tt) (lit≤ tt) (omega arith) (c .before .before .before .before .before .weigh-arg6 .given))
-    (read 12 (6 * a .l) (lit≤ tt) (lit≤ tt) (omega arith) (c .before .before .before .before .weigh-arg7 .given))
-    (read 14 (4 * a .l) (lit≤ tt) (lit≤ tt) (omega arith) (c .before .before .before .weigh-arg8 .given))
-    (read 16 (2 * a .l) (lit≤ tt) (lit≤ tt) (omega arith) (c .before .before .weigh-arg9 .given))
-    (read 18 (0) (lit≤ tt) (lit≤ tt) (omega arith) (c .before .weigh-arg10 .given))
+    (read 2 (16 * a .l) (lit≤ tt) (omega arith) (let e = back (2 * a .l) (omega (arith, s .pre .1)) in omega (arith, e)) (c .before .before .before .before .before .before .before .before .before .before .weigh-arg .given))
+    (read 4 (14 * a .l) (lit≤ tt) (omega arith) (let e = back (4 * a .l) (omega (arith, s .pre .1)) in omega (arith, e)) (c .before .before .before .before .before .before .before .before .before .weigh-arg2 .given))
+    (read 6 (12 * a .l) (lit≤ tt) (omega arith) (let e = back (6 * a .l) (omega (arith, s .pre .1)) in omega (arith, e)) (c .before .before .before .before .before .before .before .before .weigh-arg3 .given))
+    (read 8 (10 * a .l) (lit≤ tt) (omega arith) (let e = back (8 * a .l) (omega (arith, s .pre .1)) in omega (arith, e)) (c .before .before .before .before .before .before .before .weigh-arg4 .given))
+    (read 9 (9 * a .l) (lit≤ tt) (omega arith) (let e = back (9 * a .l) (omega (arith, s .pre .1)) in omega (arith, e)) (c .before .before .before .before .before .before .weigh-arg5 .given))
+    (read 10 (8 * a .l) (lit≤ tt) (omega arith) (let e = back (10 * a .l) (omega (arith, s .pre .1)) in omega (arith, e)) (c .before .before .before .before .before .weigh-arg6 .given))
+    (read 12 (6 * a .l) (lit≤ tt) (omega arith) (let e = back (12 * a .l) (omega (arith, s .pre .1)) in omega (arith, e)) (c .before .before .before .before .weigh-arg7 .given))
+    (read 14 (4 * a .l) (lit≤ tt) (omega arith) (let e = back (14 * a .l) (omega (arith, s .pre .1)) in omega (arith, e)) (c .before .before .before .weigh-arg8 .given))
+    (read 16 (2 * a .l) (lit≤ tt) (omega arith) (let e = back (16 * a .l) (omega (arith, s .pre .1)) in omega (arith, e)) (c .before .before .weigh-arg9 .given))
+    (read 18 (0) (lit≤ tt) (omega arith) (let e = back (18 * a .l) (omega (arith, s .pre .1)) in omega (arith, e)) (c .before .weigh-arg10 .given))
     (c .weigh .ensures)
 
 pub straight-spec : {M : Type 1} → statement M

@@ -1,0 +1,97 @@
+"""`model.py FOLDER`: the program FOLDER/block is traced at eight bands, each side twice round the rings, and modelled."""
+import collections
+import re
+import shutil
+import subprocess
+import sys
+
+LOOPS = {"oeq": "octave::block::equalise", "plain": "plain_block"}
+PROCESSORS = ["skylake", "znver2"]
+MISS = 16  # cycles
+OBJDUMP = shutil.which("x86_64-linux-gnu-objdump") or "objdump"
+folder = sys.argv[1]
+program = folder + "/block"
+
+
+def disassembled():
+    """Each instruction and its function, by address."""
+    text, function, of, name = subprocess.run([OBJDUMP, "-d", "--no-show-raw-insn", program], capture_output=True, text=True, check=True).stdout, {}, {}, None
+    for line in text.splitlines():
+        if head := re.match(r"[0-9a-f]+ <(.*)>:", line):
+            name = head[1]
+        elif found := re.match(r"\s+([0-9a-f]+):\s+(.*)", line):
+            of[int(found[1], 16)], function[int(found[1], 16)] = found[2].split("#")[0].strip(), name
+    return of, function
+
+
+def traced(side):
+    """The addresses that were executed."""
+    log = folder + "/trace"
+    subprocess.run(["qemu-x86_64", "-singlestep", "-d", "nochain,exec", "-D", log, program, "8", "2", side], check=True)
+    return [int(found[1], 16) for line in open(log) if (found := re.search(r"\[[0-9a-f]+/([0-9a-f]+)/", line))]
+
+
+def samples(trace, side):
+    """Where each sample begins: the first address of the loop that is executed once a sample."""
+    loop = collections.Counter(a for a in trace if function.get(a) == LOOPS[side])
+    once = {a for a, n in loop.items() if 2200 <= n <= 2304}
+    head = next(a for a in trace if a in once)
+    return [i for i, a in enumerate(trace) if a == head]
+
+
+def modelled(address):
+    """An instruction for llvm-mca, which knows no stack engine: pushes and pops are plain stores and loads."""
+    text = re.sub(r"<[^>]*>", "", code[address]).strip()
+    name = text.split()[0]
+    if "nop" in name or name == "data16":
+        return "nop"
+    if name.startswith("j"):
+        return name + " .L0"
+    return {
+        "call": "movq %rax,-8(%rsp)\njmp .L0",
+        "ret": "jmp *8(%rsp)",
+        "push": f"movq {text.split()[-1]},-8(%rsp)",
+        "pop": f"movq 8(%rsp),{text.split()[-1]}",
+    }.get(name, text)
+
+
+def cycles(trace, starts, processor):
+    """The mean over runs of four samples, spread over the second time round."""
+    total = count = 0
+    for i in range(len(starts) // 2, len(starts) - 5, len(starts) // 48):
+        run = ".L0:\n" + "\n".join(modelled(a) for a in trace[starts[i]:starts[i + 4]]) + "\n"
+        out = subprocess.run(["llvm-mca", "-mtriple=x86_64", "-mcpu=" + processor, "-iterations=1"], input=run, capture_output=True, text=True, check=True).stdout
+        total, count = total + int(re.search(r"Total Cycles:\s+(\d+)", out)[1]), count + 4
+    return total / count
+
+
+def jumps(trace, starts):
+    """Conditional jumps a sample, and those missed by two tables of two-bit counters, by address and with history, and a chooser."""
+    plain, with_history, chooser, history, seen, missed = collections.Counter(), collections.Counter(), collections.Counter(), 0, 0, 0
+    half = starts[len(starts) // 2]
+    for i, (a, following) in enumerate(zip(trace, trace[1:])):
+        jump = re.match(r"j(?!mp)\w+\s+([0-9a-f]+)", code.get(a, ""))
+        if not jump:
+            continue
+        taken, key = following == int(jump[1], 16), (a, history)
+        guesses = plain[a] >= 0, with_history[key] >= 0
+        if half <= i < starts[-1]:
+            seen, missed = seen + 1, missed + (guesses[chooser[a] >= 0] != taken)
+        if guesses[0] != guesses[1]:
+            chooser[a] = max(-4, min(3, chooser[a] + (1 if guesses[1] == taken else -1)))
+        for table, at in (plain, a), (with_history, key):
+            table[at] = max(-2, min(1, table[at] + (1 if taken else -1)))
+        history = (2 * history + taken) % 4096
+    count = len(starts) - 1 - len(starts) // 2
+    return seen / count, missed / count
+
+
+code, function = disassembled()
+for side in LOOPS:
+    trace = traced(side)
+    starts = samples(trace, side)
+    seen, missed = jumps(trace, starts)
+    print(f"{side}: {(starts[-1] - starts[0]) / (len(starts) - 1):.0f} instructions a sample, {seen:.0f} conditional jumps, {missed:.1f} missed")
+    for processor in PROCESSORS:
+        c = cycles(trace, starts, processor)
+        print(f"    {processor}: {c:.0f} cycles and {MISS} a miss: {c + MISS * missed:.0f}")
