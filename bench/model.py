@@ -81,7 +81,7 @@ def jumps(trace, starts):
             chooser[a] = max(-4, min(3, chooser[a] + (1 if guesses[1] == taken else -1)))
         for table, at in (plain, a), (with_history, key):
             table[at] = max(-2, min(1, table[at] + (1 if taken else -1)))
-        history = (2 * history + taken) % 4096
+        history = (2 * history + taken) % 2**32
     count = len(starts) - 1 - len(starts) // 2
     return seen / count, missed / count
 
