@@ -1,6 +1,6 @@
 -- Every row of the table, by one computation. Assumes nothing.
 use mathlib.Core.Path.{_≡_, refl}
-use mathlib.Core.List.{List, map}
+use mathlib.Core.List.{map}
 use lib.Ieee.{ofBits}
 use Rattle.whole.specs.Sum.{sum}
 use Rattle.tree.specs.Tree.{weighted, lowPass, level, band, holdBack, gainSum, output}

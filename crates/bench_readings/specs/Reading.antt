@@ -1,5 +1,5 @@
 -- What is read on the bench, and where.
-use mathlib.Core.List.{List, [], _∷_}
+use mathlib.Core.List.{List}
 use Prim.Native.Nat.{ℕ}
 use lib.IntN.{ℤ}
 use Rattle.tree.specs.Prototype.{published}

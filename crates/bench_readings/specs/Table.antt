@@ -1,8 +1,7 @@
 -- 01, Bench readings: the cases marked P, in the page's order.
-use mathlib.Core.List.{List, [], _∷_, _++_, map}
-use Prim.Native.Nat.{ℕ}
+use mathlib.Core.List.{List, [], _∷_}
 use lib.IntN.{ℤ, pos, negsuc}
-use Rattle.bench_readings.specs.Reading.{Reading, Row, row, output-of, line-of, band-of, decibels-of}
+use Rattle.bench_readings.specs.Reading.{Row, row, output-of, line-of, band-of, decibels-of}
 
 -- 100,000 then zeros
 abbrev hundred-thousand : List ℤ

@@ -1,7 +1,7 @@
 -- The one encoding of an answer as a 64-bit number: "An accepted call returns its answer. A refusal is returned as
 -- INT64_MIN + number + 256·place (place 0 until a request asks for one)".
 use mathlib.Core.Path.{_≡_}
-use mathlib.Core.Bool.{Bool, false, cond}
+use mathlib.Core.Bool.{false, cond}
 use Prim.Native.Nat.{ℕ, _+_, _*_, _/_, _%_, _<_, _^_}
 use lib.IntN.{ℤ, pos, negsuc, natAbs, _+ℤ_, _-ℤ_}
 use lib.Signed.{ltZ}

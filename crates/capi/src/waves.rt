@@ -8,7 +8,6 @@ use wave::Reading;
 use wave::Sample;
 use wave::Written;
 ghost use mathlib.Core.Path.{_≡_};
-ghost use Prim.Native.Nat.{_<_, _^_};
 ghost use Rattle.wave.specs.Header.{writeOf, writeAnswer};
 ghost use Rattle.wave.specs.Sample.{fromBytes, toBytes, sampleAnswer, putAnswer};
 ghost use Rattle.wave.specs.Values.{bitsOf};

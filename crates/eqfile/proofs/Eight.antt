@@ -2,21 +2,21 @@
 use mathlib.Core.Path.{_≡_, refl, sym, ap, ap₂, subst, _∙_}
 use mathlib.Core.Logic.{_⊎_, inl, inr, ⊎-elim}
 use mathlib.Core.Bool.{Bool, true, false, cond}
-use mathlib.Core.List.{List, [], _∷_, _++_, append-assoc, append-nil}
-use Prim.Native.Nat.{ℕ, zero, suc, _+_, _≤_, _<_}
+use mathlib.Core.List.{List, [], _∷_, _++_, append-assoc}
+use Prim.Native.Nat.{ℕ, suc, _+_, _<_}
 use native.Mathlib.Nat.{add-zero}
 use native.Mathlib.Omega.{arith}
-use borrow.Author.Tests.{lt-leb, eq-eqb, ne-eqb, eqb-true, eqb-false}
+use borrow.Author.Tests.{eqb-true, eqb-false}
 use lib.Dec.{eqb, leb}
-use lib.ListN.{length, set, length-append, length-set}
+use lib.ListN.{length, set, length-append}
 use lib.IntN.{ℤ}
 use Rattle.wave.specs.Answer.{Answer, accepted, refused}
 use Rattle.eqfile.specs.Argument.{argumentOf}
 use Rattle.eqfile.specs.Arguments.{put, another, with, eachGain, argumentsOf, allOf}
-use Rattle.eqfile.specs.Start.{Plan, startOf}
+use Rattle.eqfile.specs.Start.{startOf}
 use Rattle.eqfile.proofs.Gains.{refused-30}
 use Rattle.eqfile.proofs.Orders.{arguments-refused, not-eight}
-use Rattle.eqfile.proofs.Takings.{right-text, wrong-text, no-place, after-refused}
+use Rattle.eqfile.proofs.Takings.{right-text, wrong-text}
 
 -- ---- refused once, refused for good
 

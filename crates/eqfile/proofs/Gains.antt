@@ -1,7 +1,7 @@
 -- An argument's gain is the gain command's answer. Assumes nothing.
-use mathlib.Core.Path.{_≡_, refl, sym, ap, _∙_, subst}
+use mathlib.Core.Path.{_≡_, sym, ap, _∙_, subst}
 use mathlib.Core.List.{List, [], _∷_}
-use Prim.Native.Nat.{ℕ, _+_, _-_, _≤_, _<_}
+use Prim.Native.Nat.{ℕ, _-_, _≤_, _<_}
 use native.Mathlib.Omega.{arith}
 use lib.IntN.{ℤ, pos, natAbs, _-ℤ_}
 use lib.Ieee.{Float}
@@ -10,7 +10,7 @@ use Rattle.gain.proofs.Table.{entry-small}
 use mathlib.Core.Logic.{⊎-elim}
 use Rattle.whole.proofs.Signed.{lit, _⊖_, abs-of}
 use Rattle.gain.specs.Answer as gain
-use Rattle.gain.specs.Decibels.{Half, decibelsAnswer}
+use Rattle.gain.specs.Decibels.{Half}
 use Rattle.gain.specs.Promise.{answerTo}
 use Rattle.gain.specs.Table.{entry}
 use Rattle.gain.specs.declared.Command.the-variants.{Decibels}

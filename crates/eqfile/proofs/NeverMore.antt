@@ -1,9 +1,9 @@
 -- The plan never asks for more bytes than the header says. Assumes nothing.
-use mathlib.Core.Path.{_≡_, refl, sym, ap, subst, _∙_}
+use mathlib.Core.Path.{_≡_, ap, subst}
 use mathlib.Core.Bool.{Bool, true, false, cond}
 use mathlib.Core.List.{List, [], _∷_}
-use Prim.Native.Nat.{ℕ, _+_, _-_, _*_, _/_, _%_, _≤_, _<_, min}
-use native.Mathlib.Nat.{mul-le-mul-left, div-add-mod', mul-comm, le-trans}
+use Prim.Native.Nat.{ℕ, _+_, _-_, _*_, _/_, _≤_, min}
+use native.Mathlib.Nat.{mul-le-mul-left, div-add-mod', mul-comm}
 use native.Mathlib.Omega.{arith}
 use lib.Dec.{ltb}
 use Rattle.wave.specs.Answer.{Answer, accepted, refused}

@@ -7,8 +7,6 @@ use Prim.Native.Nat.{ℕ}
 use lib.Dec.{eqb}
 use lib.IntN.{ℤ}
 use Rattle.wave.specs.Answer.{Answer, accepted, refused}
-use Rattle.wave.specs.Values.{bitsOf}
-use Rattle.wave.specs.declared.format.Format.{Format}
 use Rattle.wave.specs.declared.format.Format.the-variants.{Bits16, Bits24}
 use Rattle.eqfile.specs.declared.half.Argument.{Argument}
 use Rattle.eqfile.specs.declared.half.Argument.the-variants as argument

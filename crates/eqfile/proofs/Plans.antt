@@ -1,15 +1,15 @@
 -- The plan of a run. Assumes nothing.
-use mathlib.Core.Path.{_≡_, refl, sym, ap, ap₂, _∙_}
+use mathlib.Core.Path.{_≡_, sym, ap, ap₂, _∙_}
 use mathlib.Core.Bool.{Bool, true, false, cond}
-use Prim.Native.Nat.{ℕ, _+_, _-_, _*_, _/_, _≤_, _<_, _^_, min}
-use native.Mathlib.Nat.{mul-le-mul-right, mul-le-mul-left, min-le-left, min-le-right}
+use Prim.Native.Nat.{ℕ, _-_, _*_, _≤_, _<_, min}
+use native.Mathlib.Nat.{mul-le-mul-right, mul-le-mul-left}
 use native.Mathlib.Omega.{arith}
 use mir.Val.{Fits}
 use mir.Syntax.{w64}
 use Rattle.wave.specs.Block.{sizeOf}
 use Rattle.wave.specs.declared.format.Format.{Format}
 use Rattle.wave.specs.declared.format.Format.the-variants.{Bits16, Bits24}
-use Rattle.eqfile.specs.Turn.{Block, late, longest, fedInAll, allRead, wantedOf, turnOf, Planned}
+use Rattle.eqfile.specs.Turn.{late, longest, fedInAll, allRead, wantedOf, turnOf, Planned}
 use Rattle.eqfile.specs.declared.plan.Turn as declared
 
 pub few-bytes : (format : Format) → (2 ≤ sizeOf format) × (sizeOf format ≤ 3)

@@ -2,18 +2,18 @@
 use mathlib.Core.Path.{_≡_, refl, sym, ap, _∙_, subst}
 use mathlib.Core.Bool.{Bool, true, false, not, cond}
 use mathlib.Core.List.{List, [], _∷_}
-use Prim.Native.Nat.{ℕ, zero, suc, _+_, _-_, _*_, _≤_, _<_}
+use Prim.Native.Nat.{ℕ, _+_, _-_, _*_, _≤_, _<_}
 use native.Mathlib.Omega.{arith}
 use borrow.Author.Tests.{lt-ltb, le-ltb, le-leb, lt-leb, ltb-false, leb-true, eq-eqb, ne-eqb}
 use lib.Dec.{eqb, leb, ltb}
 use lib.ListN.{length, getD, take, drop, length-drop}
 use lib.Seq.{take-all}
-use lib.IntN.{ℤ, pos, negℤ, natAbs, _-ℤ_}
+use lib.IntN.{ℤ, pos, natAbs, _-ℤ_}
 use Rattle.gain.specs.Decibels.{signed}
 use Rattle.gain.proofs.Halves.{signed-size, true-is-not-false}
 use Rattle.whole.proofs.Signed.{lit, neg, _⊖_, eq-by}
 use Rattle.wave.specs.Answer.{Answer, accepted, refused}
-use Rattle.eqfile.specs.Argument.{isDigit, upTo24, digitsOf, withSign, halfDecibels, gainFor, argumentOf}
+use Rattle.eqfile.specs.Argument.{isDigit, upTo24, digitsOf, withSign, halfDecibels}
 
 -- ---- digits
 

@@ -1,15 +1,15 @@
 -- The samples that are wholly there, and zeros after them. Assumes nothing.
-use mathlib.Core.Path.{_≡_, refl, sym, ap, ap₂, _∙_, subst}
+use mathlib.Core.Path.{_≡_, refl, sym, ap, ap₂, _∙_}
 use mathlib.Core.List.{List, [], _∷_, _++_, append-nil}
 use Prim.Native.Nat.{ℕ, zero, suc, _+_, _-_, _*_, _/_, _%_, _≤_, _<_, min}
 use native.Mathlib.Nat.{mul-le-mul-right, mul-div-cancel, mul-mod-left, div-add-mod', suc-mul, suc-add, add-comm, zero-add}
 use native.Mathlib.Omega.{arith}
 use borrow.Author.Tests.{eq-eqb}
 use lib.ListN.{length, take, drop, replicate, length-take, length-drop, length-append, drop-of-length-le}
-use lib.Seq.{take-nil, take-all, take-at, drop-at, take-take, length-take-le}
+use lib.Seq.{take-nil, take-at, drop-at, take-take, length-take-le}
 use lib.IntN.{ℤ, pos}
 use borrow.Rule.Slice.PartMut.{putMid}
-use Rattle.wave.specs.Answer.{Answer, accepted, refused}
+use Rattle.wave.specs.Answer.{Answer}
 use Rattle.wave.specs.Block.{sizeOf, samplesOf, blockFrom}
 use Rattle.wave.specs.Sample.{sampleIn}
 use Rattle.wave.specs.declared.format.Format.{Format}

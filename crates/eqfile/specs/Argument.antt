@@ -1,5 +1,5 @@
 -- 01, Refusal numbers: "30 arguments not eight whole numbers from -24 to 24, each one or two digits after at most one minus". One argument.
-use mathlib.Core.Bool.{Bool, _&&_, not, true, false, cond}
+use mathlib.Core.Bool.{Bool, not, true, false, cond}
 use mathlib.Core.List.{List}
 use Prim.Native.Nat.{ℕ, _+_, _-_, _*_}
 use lib.Dec.{eqb, leb, ltb}

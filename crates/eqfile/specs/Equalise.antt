@@ -9,7 +9,7 @@ use lib.IntN.{ℤ}
 use Rattle.wave.specs.Answer.{Answer, accepted, refused}
 use Rattle.wave.specs.Block.{blockTo}
 use Rattle.wave.specs.declared.format.Format.{Format}
-use Rattle.octave.specs.Block.{Blocking, blockOf}
+use Rattle.octave.specs.Block.{blockOf}
 use Rattle.eqfile.specs.Data.{samplesFrom}
 
 -- the bytes stored, and each lent place afterwards

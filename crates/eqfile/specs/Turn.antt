@@ -1,7 +1,7 @@
 -- The plan of a run, 01, The program: "sample n is output n + 1,143; zeros follow the input".
 use mathlib.Core.Path.{_≡_}
 use mathlib.Core.Bool.{Bool, cond}
-use Prim.Native.Nat.{ℕ, _+_, _-_, _*_, _≤_, min}
+use Prim.Native.Nat.{ℕ, _+_, _-_, _*_, min}
 use lib.Dec.{eqb}
 use Rattle.eqfile.specs.declared.plan.Turn as declared
 

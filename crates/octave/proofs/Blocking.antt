@@ -1,20 +1,20 @@
 -- The block call: what an accepted memory is, its places after the samples, and each refusal. Assumes nothing.
 use mathlib.Core.Path.{_≡_, refl, sym, ap, ap₂, subst, _∙_}
 use mathlib.Core.Logic.{⊎-elim}
-use mathlib.Core.Bool.{Bool, true, false, not, cond}
-use mathlib.Core.List.{List, [], _∷_, _++_}
-use Prim.Native.Nat.{ℕ, zero, suc, _+_, _-_, _*_, _^_, _≤_, _<_}
+use mathlib.Core.Bool.{Bool, true, false, cond}
+use mathlib.Core.List.{List, [], _∷_}
+use Prim.Native.Nat.{ℕ, _-_, _*_, _^_, _≤_, _<_}
 use native.Mathlib.Nat.{not-suc-le-zero, le-of-suc-le-suc, one-mul}
 use native.Mathlib.Omega.{arith}
 use borrow.Author.Tests.{eqb-true, ltb-true, eq-eqb, ne-eqb, lt-leb, le-leb}
 use borrow.Rule.Slice.PartMut.{putMid}
-use lib.Dec.{T, eqb, ltb, leb}
+use lib.Dec.{eqb, ltb}
 use lib.ListN.{length, getD, take, drop, set, length-drop, List·getD-eq-default}
 use lib.Seq.{take-all}
 use lib.IntN.{ℤ, pos, natAbs}
-use lib.Signed.{ltZ, nonNeg, pos-natAbs}
+use lib.Signed.{ltZ, pos-natAbs}
 use mir.Syntax.{w32}
-use mir.Val.{SFits, toZ}
+use mir.Val.{toZ}
 use mir.Facts.{toZ-pos}
 use types.Run.{OneOf}
 use denote.Enum.Declared.{tagOf}
@@ -29,8 +29,8 @@ use Rattle.octave.specs.Range.{within, allWithin}
 use Rattle.octave.specs.Answer.{accepted, refused}
 use Rattle.octave.specs.Memory.{lineLength, memoryLength, countAllowed, positionWithin, keptOf}
 use Rattle.octave.specs.Step.{Region, Allowed}
-use Rattle.octave.specs.Run.{next, Ran, answered, run, RunDone}
-use Rattle.octave.specs.Block.{Blocking, accept, judged, blockAt, blockOf, Judged, Equalised, BlockDone}
+use Rattle.octave.specs.Run.{next, answered, run, RunDone}
+use Rattle.octave.specs.Block.{accept, blockAt, blockOf, Equalised, BlockDone}
 use Rattle.octave.proofs.memory.Kept as kept
 use Rattle.octave.proofs.Ranges.{Count, count-of, within-parts, all-at}
 use Rattle.octave.proofs.Layouts.{line-small}

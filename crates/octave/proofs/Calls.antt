@@ -1,40 +1,39 @@
 -- Accepted block calls, one after the other, on a memory that holds a history. Assumes nothing.
 use mathlib.Core.Path.{_≡_, refl, sym, ap, ap₂, subst, _∙_}
 use mathlib.Core.Bool.{Bool, true, false, not, cond}
-use mathlib.Core.List.{List, [], _∷_, _++_, append-assoc}
+use mathlib.Core.List.{List, [], _∷_, _++_}
 use Prim.Native.Nat.{ℕ, zero, suc, _+_, _-_, _*_, _^_, _≤_, _<_}
-use native.Mathlib.Nat.{add-zero, zero-add, sub-zero, one-mul}
+use native.Mathlib.Nat.{one-mul}
 use lib.Pow.{pow-pos}
 use native.Mathlib.Decide.{decLt}
 use native.Mathlib.Omega.{arith}
-use borrow.Author.Tests.{eq-eqb, eqb-true, lt-ltb, le-ltb, le-leb}
-use lib.Dec.{T, eqb, leb, ltb, lit≤}
-use lib.ListN.{length, getD, drop, replicate, length-append, length-replicate, getD-replicate, List·getD-append, List·getD-eq-default}
-use lib.Seq.{getD-append-add}
+use borrow.Author.Tests.{eqb-true, le-ltb, le-leb}
+use lib.Dec.{eqb, leb}
+use lib.ListN.{length, getD, replicate, length-replicate, List·getD-eq-default}
 use lib.IntN.{ℤ, pos, natAbs}
 use Rattle.whole.specs.Limit.{least24, most24}
 use Rattle.whole.proofs.Signed.{about}
 use Rattle.tree.specs.Prototype.{published}
 use Rattle.tree.specs.Signal.{Signal, signalOf, gainOf}
-use Rattle.tree.specs.Tree.{line, gainSum, output}
+use Rattle.tree.specs.Tree.{output}
 use Rattle.tree.specs.Edges.{largestSample}
 use Rattle.tree.proofs.Recursive.{recursive-form}
 use Rattle.tree.proofs.Reach.{published-low-pass-never-limited}
 use Rattle.octave.specs.declared.memory.Kept.{Kept}
 use Rattle.octave.specs.declared.memory.Kept.the-variants.{Bands, CountWrong, LengthWrong, PositionOutside}
 use Rattle.octave.specs.Range.{within, allWithin}
-use Rattle.octave.specs.Answer.{Answer, accepted, refused}
-use Rattle.octave.specs.Memory.{lineLength, memoryLength, countAllowed, positionWithin, prepared, keptOf}
+use Rattle.octave.specs.Answer.{accepted, refused}
+use Rattle.octave.specs.Memory.{lineLength, countAllowed, prepared, keptOf}
 use Rattle.octave.specs.Step.{Region}
 use Rattle.octave.specs.Run.{outOf, run}
 use Rattle.octave.specs.Block.{Blocking, accept, judged, blockAt, blockOf}
-use Rattle.octave.specs.History.{Call, Played, played, AllAccepted, joined, carried, from}
+use Rattle.octave.specs.History.{Call, AllAccepted, joined, from}
 use Rattle.octave.proofs.Ranges.{within-parts, all-at}
 use Rattle.tree.specs.Forms.{treeSum}
 use Rattle.octave.proofs.Keeping.{kept-bands}
 use Rattle.octave.proofs.Layouts.{line-small}
 use Rattle.octave.proofs.Holds.{Holds, Unlimited, Free}
-use Rattle.octave.proofs.Samples.{After, run-keeps, holds-none}
+use Rattle.octave.proofs.Samples.{run-keeps, holds-none}
 
 -- ---- an accepted call
 

@@ -1,19 +1,18 @@
 -- Demand 3 over demand 2's output: each output of accepted calls from prepared memory. Assumes nothing.
-use mathlib.Core.Path.{_≡_, sym, ap, subst, _∙_}
+use mathlib.Core.Path.{_≡_, sym, subst, _∙_}
 use mathlib.Core.Bool.{true}
 use mathlib.Core.List.{List, [], _∷_}
-use Prim.Native.Nat.{ℕ, zero, suc, _+_, _-_, _*_, _^_, _≤_, _<_}
+use Prim.Native.Nat.{ℕ, _+_, _-_, _*_, _^_, _≤_, _<_}
 use native.Mathlib.Decide.{decLt}
 use native.Mathlib.Omega.{arith}
-use borrow.Author.Tests.{lt-ltb, le-ltb}
-use lib.ListN.{length, getD, length-append, List·getD-eq-default}
+use lib.ListN.{length, length-append, List·getD-eq-default}
 use lib.IntN.{ℤ, pos, negℤ, natAbs, _-ℤ_, _*ℤ_}
-use lib.Signed.{_≤ℤ_, _<ℤ_, leZ-yes}
+use lib.Signed.{_<ℤ_, leZ-yes}
 use Rattle.whole.specs.Nearest.{nearest}
 use Rattle.whole.specs.Limit.{limit, least24, most24, least32, most32}
 use Rattle.whole.proofs.Signed.{var, lit, le-by}
 use Rattle.tree.specs.Prototype.{published}
-use Rattle.tree.specs.Signal.{Signal, back, signalOf, gainOf}
+use Rattle.tree.specs.Signal.{back, signalOf, gainOf}
 use Rattle.tree.specs.Tree.{lowPass, level, delay, output}
 use Rattle.tree.specs.Exact.{commonScale, slack, farthest}
 use Rattle.tree.specs.Edges.{IsGain, AllowedGains}

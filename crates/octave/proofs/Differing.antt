@@ -1,5 +1,5 @@
 -- The gain differences of neighbouring bands. Assumes nothing.
-use mathlib.Core.Path.{_≡_, refl, sym, ap, ap₂, _∙_}
+use mathlib.Core.Path.{_≡_, refl, ap, ap₂, _∙_}
 use mathlib.Core.List.{List}
 use Prim.Native.Nat.{ℕ, zero, suc, _+_, _-_, _≤_, _<_, _^_}
 use native.Mathlib.Nat.{mul-le-mul}
@@ -17,7 +17,7 @@ use Rattle.whole.proofs.Magnitude.{abs-+ℤ, abs--ℤ, abs-*ℤ}
 use Rattle.whole.proofs.Product.{widens}
 use Rattle.whole.proofs.Rounded.{raw}
 use Rattle.tree.specs.Signal.{gainOf}
-use Rattle.octave.specs.Step.{Allowed, Differ, Small}
+use Rattle.octave.specs.Step.{Differ, Small}
 
 -- a difference times a place
 pub part-small : (d a : ℤ) → natAbs d ≤ 2 ^ 15 → SFits w32 a → natAbs (d *ℤ a) ≤ 2 ^ 46

@@ -2,18 +2,17 @@
 -- tree's sum. Over any prototype whose taps are within the ring and whose new values the 32-bit limit does not move.
 -- Assumes nothing.
 use mathlib.Core.Path.{_≡_, refl, sym, ap, ap₂, subst, _∙_}
-use mathlib.Core.List.{List, [], _++_}
+use mathlib.Core.List.{List}
 use Prim.Native.Nat.{ℕ, zero, suc, _+_, _-_, _*_, _^_, _≤_, _<_}
-use native.Mathlib.Nat.{pow-succ', mul-le-mul-left, mul-le-mul-right, mul-le-mul, mul-sub, mul-one, mul-zero, le-trans, le-refl}
+use native.Mathlib.Nat.{pow-succ', mul-le-mul-left, mul-le-mul, mul-zero, le-trans}
 use native.Mathlib.Omega.{arith}
-use lib.Pow.{pow-mono, pow-pos}
-use lib.ListN.{length, getD, take, drop, set, length-drop, length-set}
+use lib.ListN.{take, drop, set, length-set}
 use lib.Seq.{drop-at, length-take-le}
 use lib.IntN.{ℤ, pos, _+ℤ_, _-ℤ_, _*ℤ_}
 use Rattle.whole.specs.Nearest.{nearest}
 use Rattle.whole.specs.Limit.{limit, least32, most32}
 use Rattle.whole.proofs.Sums.{sum-ext}
-use Rattle.tree.specs.Prototype.{Prototype, scale, coefficient, taps, published}
+use Rattle.tree.specs.Prototype.{scale, coefficient, published}
 use Rattle.tree.specs.Signal.{Signal, back}
 use Rattle.tree.specs.Tree.{weighted, lowPass, level}
 use Rattle.tree.specs.Forms.{treeDelay, treeSum}

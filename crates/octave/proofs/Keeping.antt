@@ -1,19 +1,19 @@
 -- The memory: the prepared one, and how a lent one is judged. Assumes nothing.
 use mathlib.Core.Path.{_≡_, refl, sym, ap, ap₂, subst, _∙_}
-use mathlib.Core.Bool.{Bool, true, false, cond}
-use mathlib.Core.List.{List, [], _∷_, _++_}
-use Prim.Native.Nat.{ℕ, zero, suc, _+_, _-_, _*_, _^_, _≤_, _<_}
-use native.Mathlib.Nat.{mul-sub, mul-one}
+use mathlib.Core.Bool.{Bool, true, false}
+use mathlib.Core.List.{List}
+use Prim.Native.Nat.{ℕ, suc, _+_, _-_, _*_, _^_, _≤_, _<_}
+use native.Mathlib.Nat.{mul-sub}
 use native.Mathlib.Omega.{arith}
 use borrow.Author.Tests.{eq-eqb, ne-eqb, lt-ltb, le-ltb}
 use lib.ListN.{length, getD, set, replicate}
 use lib.IntN.{ℤ, pos, negsuc, natAbs}
 use lib.Signed.{ltZ, nonNeg, pos-natAbs}
-use lib.Dec.{T, ltb}
+use lib.Dec.{T}
 use Rattle.tree.specs.Prototype.{published}
 use Rattle.tree.specs.Tree.{delay}
 use Rattle.octave.specs.declared.memory.Kept.the-variants.{Bands, CountWrong, LengthWrong, PositionOutside}
-use Rattle.octave.specs.Memory.{lineLength, memoryLength, countAllowed, positionWithin, prepared, prepareOf, PrepareDone, keptOf}
+use Rattle.octave.specs.Memory.{lineLength, memoryLength, countAllowed, prepared, prepareOf, PrepareDone, keptOf}
 use Rattle.octave.specs.Answer.{accepted, refused}
 
 -- ---- the prepared memory

@@ -1,10 +1,10 @@
 -- The lengths of the layout, for 2 to 10 bands. Assumes nothing.
-use mathlib.Core.Path.{_≡_, refl, sym, ap, _∙_}
-use Prim.Native.Nat.{ℕ, _+_, _-_, _*_, _%_, _^_, _≤_, _<_}
-use native.Mathlib.Nat.{mod-eq-of-lt, mul-le-mul, mul-le-mul-left}
+use mathlib.Core.Path.{_≡_}
+use Prim.Native.Nat.{ℕ, _-_, _*_, _%_, _^_, _≤_}
+use native.Mathlib.Nat.{mod-eq-of-lt, mul-le-mul}
 use native.Mathlib.Omega.{arith}
 use lib.Pow.{pow-mono}
-use Rattle.octave.specs.Memory.{lineLength, memoryLength}
+use Rattle.octave.specs.Memory.{lineLength}
 
 pub line-small : (M : ℕ) → M ≤ 10 → lineLength M ≤ 4608
 line-small M h = omega (arith, pow-mono {i = M - 1} {j = 9} (omega arith))

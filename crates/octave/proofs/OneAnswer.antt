@@ -1,7 +1,6 @@
 -- One answer: two results that meet a call's promise are equal, and so is every lent place afterwards. Assumes nothing.
 use mathlib.Core.Path.{_≡_, refl, sym, ap, _∙_}
 use mathlib.Core.List.{List, [], _∷_}
-use Prim.Native.Nat.{ℕ}
 use lib.IntN.{ℤ}
 use lib.ListN.{getD}
 use Rattle.octave.specs.declared.memory.Length as length

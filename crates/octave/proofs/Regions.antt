@@ -1,12 +1,11 @@
 -- The region of a step: what its line's reads ask, and the region of the step below. Assumes nothing.
-use mathlib.Core.Path.{_≡_, refl, sym, ap, subst, _∙_}
-use mathlib.Core.Logic.{⊎-elim}
+use mathlib.Core.Path.{_≡_, refl, ap, _∙_}
 use mathlib.Core.List.{List}
-use Prim.Native.Nat.{ℕ, zero, suc, _+_, _-_, _*_, _^_, _≤_, _<_, min}
-use native.Mathlib.Nat.{pow-succ', mul-le-mul-left, mul-le-mul-right, zero-mul, eq-zero-or-pos, le-refl}
+use Prim.Native.Nat.{ℕ, zero, suc, _-_, _*_, _^_, _≤_, _<_}
+use native.Mathlib.Nat.{pow-succ', mul-le-mul-left, mul-le-mul-right, zero-mul, le-refl}
 use native.Mathlib.Omega.{arith}
 use lib.Pow.{pow-mono}
-use lib.ListN.{length, take, drop, set, length-take, length-drop, length-set}
+use lib.ListN.{length, take, drop, set, length-drop}
 use lib.Seq.{take-all, drop-set-lt}
 use lib.IntN.{ℤ}
 use Rattle.tree.specs.Prototype.{published}

@@ -2,14 +2,14 @@
 use mathlib.Core.Path.{_≡_, refl, sym, ap, ap₂, subst, _∙_}
 use mathlib.Core.List.{List, [], _∷_, _++_, append-nil}
 use mathlib.Core.Bool.{Bool, true, false, cond}
-use Prim.Native.Nat.{ℕ, zero, suc, _+_, _-_, _*_, _^_, _≤_, _<_}
+use Prim.Native.Nat.{ℕ, _+_, _-_, _*_, _≤_, _<_}
 use native.Mathlib.Numerals.{add-one}
 use native.Mathlib.Omega.{arith}
 use borrow.Author.Tests.{lt-ltb, le-ltb, ltb-true}
 use lib.Dec.{ltb, lit<, lit≤}
 use lib.ListN.{length, getD, take, drop, set, length-set, drop-of-length-le}
 use lib.Seq.{drop-cons, take-suc-set, append-snoc, take-all}
-use lib.IntN.{ℤ, pos, natAbs, _-ℤ_, _*ℤ_}
+use lib.IntN.{ℤ, pos, _-ℤ_, _*ℤ_}
 use mir.Syntax.{w32, w64}
 use mir.Val.{SFits}
 use mir.Facts.{toZ-ofZ}
@@ -20,7 +20,7 @@ use Rattle.whole.proofs.Limit.{limit24-fits}
 use Rattle.whole.proofs.Rounded.{raw, nearest-fits}
 use Rattle.tree.specs.Prototype.{Prototype, published}
 use Rattle.octave.specs.Step.{step, Region, Done}
-use Rattle.octave.specs.Run.{next, outOf, Out, Ran, answered, run, Answered, AnsweredUnder, RunDone}
+use Rattle.octave.specs.Run.{next, outOf, Ran, answered, run, Answered, AnsweredUnder, RunDone}
 
 -- ---- one sample
 

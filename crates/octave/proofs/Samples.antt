@@ -1,11 +1,11 @@
 -- The samples of a block through lines that hold a history. Assumes nothing.
 use mathlib.Core.Path.{_≡_, refl, sym, ap, ap₂, subst, _∙_}
-use mathlib.Core.List.{List, [], _∷_, _++_}
-use Prim.Native.Nat.{ℕ, zero, suc, _+_, _-_, _*_, _^_, _≤_, _<_, suc-le-suc}
+use mathlib.Core.List.{List, [], _∷_}
+use Prim.Native.Nat.{ℕ, zero, suc, _+_, _-_, _*_, _≤_, _<_, suc-le-suc}
 use native.Mathlib.Nat.{add-zero, add-suc, suc-add}
 use native.Mathlib.Numerals.{add-one}
 use native.Mathlib.Omega.{arith}
-use lib.ListN.{length, getD, take, drop, set, length-append, length-drop, length-set, replicate}
+use lib.ListN.{length, getD, take, drop, set, length-append, length-drop, length-set}
 use lib.Seq.{length-take-le, getD-drop}
 use lib.IntN.{ℤ, pos}
 use Rattle.tree.specs.Prototype.{published}
@@ -13,11 +13,11 @@ use Rattle.tree.specs.Signal.{Signal}
 use Rattle.tree.specs.Tree.{level}
 use Rattle.tree.specs.Forms.{treeSum}
 use Rattle.octave.specs.Line.{lowValue}
-use Rattle.octave.specs.Step.{Stepped, step, Region}
+use Rattle.octave.specs.Step.{step, Region}
 use Rattle.octave.specs.Run.{next, outOf, Ran, answered, run}
 use Rattle.octave.specs.History.{from}
-use Rattle.octave.proofs.Rings.{Shows, shows-none}
-use Rattle.octave.proofs.Holds.{Holds, Free, Kept, step-keeps}
+use Rattle.octave.proofs.Rings.{shows-none}
+use Rattle.octave.proofs.Holds.{Holds, Free, step-keeps}
 use Rattle.octave.proofs.Regions.{within, less-one, region-below, rest-is}
 use Rattle.octave.proofs.Running.{next-inside, region-moved}
 

@@ -1,7 +1,7 @@
 -- The step's answer from what its calls answer. Assumes nothing.
-use mathlib.Core.Path.{_≡_, refl, sym, ap, ap₂, subst, _∙_}
-use mathlib.Core.List.{List, [], _++_, append-nil}
-use Prim.Native.Nat.{ℕ, zero, suc, _+_, _-_, _*_, _^_, _≤_, _<_}
+use mathlib.Core.Path.{_≡_, sym, ap, ap₂, _∙_}
+use mathlib.Core.List.{List, _++_, append-nil}
+use Prim.Native.Nat.{ℕ, zero, suc, _+_, _-_, _*_, _^_, _≤_}
 use native.Mathlib.Nat.{mul-le-mul-left, mul-sub, mul-one}
 use native.Mathlib.Omega.{arith}
 use lib.Pow.{pow-mono}
@@ -20,7 +20,7 @@ use Rattle.tree.specs.Prototype.{published}
 use Rattle.tree.specs.Forms.{treeDelay}
 use Rattle.whole.specs.Nearest.{nearest}
 use Rattle.octave.specs.Line.{ago, lineSum, lowValue}
-use Rattle.octave.specs.Step.{step, Region, Differ, Small, Done}
+use Rattle.octave.specs.Step.{step, Region, Small, Done}
 use Rattle.octave.proofs.Differing.{part-small}
 use Rattle.octave.proofs.Regions.{less-one, rest-is, within}
 

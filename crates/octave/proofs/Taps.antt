@@ -1,5 +1,5 @@
 -- From eleven samples to the page's sum over nineteen coefficients, and where the samples stand in the line. Assumes nothing.
-use mathlib.Core.Path.{_≡_, refl, sym, ap, subst, _∙_}
+use mathlib.Core.Path.{_≡_, refl, ap, subst, _∙_}
 use mathlib.Core.List.{List}
 use Prim.Native.Nat.{ℕ, zero, suc, _+_, _-_, _*_, _≤_, _<_, _^_}
 use native.Mathlib.Nat.{mul-comm}
@@ -8,7 +8,7 @@ use borrow.Author.Tests.{le-leb, lt-leb}
 use lib.Dec.{lit<, lit≤}
 use lib.ListN.{length, getD, take, drop}
 use lib.Seq.{getD-take, getD-drop}
-use lib.IntN.{ℤ, pos, natAbs, _+ℤ_, _*ℤ_}
+use lib.IntN.{ℤ, pos, natAbs, _*ℤ_}
 use lib.Signed.{mag}
 use mir.Syntax.{w32, w64}
 use mir.Val.{SFits}
@@ -19,7 +19,7 @@ use Rattle.whole.specs.Nearest.{nearest}
 use Rattle.whole.specs.Limit.{limit, least32, most32}
 use Rattle.whole.proofs.Limit.{limit32-fits}
 use Rattle.whole.proofs.Rounded.{raw, nearest-fits}
-use Rattle.tree.specs.Prototype.{published, coefficient, taps}
+use Rattle.tree.specs.Prototype.{published, coefficient}
 use Rattle.octave.specs.Low.{eleven, Weighed}
 use Rattle.octave.specs.Line.{place, tap, lineSum, lowValue, Summed}
 

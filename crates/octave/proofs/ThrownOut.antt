@@ -1,23 +1,23 @@
 -- 01, What the promises say: "These five have to be thrown out". Each with a witness on which the promise that it names fails.
 -- The witnesses are two bands, gains (4,096, 0) or (0, 4,096), and one loud sample. Assumes nothing.
-use mathlib.Core.Path.{_≡_, refl, sym, ap, _∙_}
+use mathlib.Core.Path.{_≡_, sym, ap, _∙_}
 use mathlib.Core.List.{List, [], _∷_}
-use Prim.Native.Nat.{ℕ, zero, suc, _*_, _≤_, _<_}
+use Prim.Native.Nat.{ℕ, zero, suc, _*_, _≤_}
 use native.Mathlib.Omega.{arith}
 use lib.Dec.{lit≤}
 use lib.ListN.{length, getD}
-use lib.IntN.{ℤ, pos, negsuc, natAbs, _-ℤ_, _*ℤ_}
+use lib.IntN.{ℤ, pos, natAbs, _-ℤ_, _*ℤ_}
 use lib.Signed.{leZ-yes}
 use Rattle.whole.specs.Sum.{sum}
 use Rattle.tree.specs.Prototype.{published}
 use Rattle.tree.specs.Signal.{Signal, back, signalOf, gainOf}
 use Rattle.tree.specs.Tree.{weighted, band, holdBack, gainSum, delay}
 use Rattle.tree.specs.Exact.{commonScale, exactLevel, exactOutput, farthest}
-use Rattle.tree.specs.Edges.{IsGain, AllowedGains}
+use Rattle.tree.specs.Edges.{AllowedGains}
 use Rattle.octave.specs.declared.memory.Kept.{Kept}
 use Rattle.octave.specs.declared.memory.Kept.the-variants.{Bands, CountWrong, LengthWrong, PositionOutside}
 use Rattle.octave.specs.Range.{allWithin}
-use Rattle.octave.specs.Answer.{Answer, accepted, refused}
+use Rattle.octave.specs.Answer.{accepted, refused}
 use Rattle.octave.specs.Memory.{prepared, keptOf}
 use Rattle.octave.specs.Line.{tap, lineSum, lowValue}
 use Rattle.octave.specs.Step.{step}

@@ -13,7 +13,6 @@ use Rattle.whole.proofs.Sums.{sum-ext}
 use Rattle.tree.specs.Prototype.{published}
 use Rattle.tree.specs.Signal.{Signal, signalOf, gainOf}
 use Rattle.tree.specs.Tree.{line, heldBack, gainSum, output}
-use Rattle.tree.specs.Edges.{largestSample}
 use Rattle.octave.specs.Run.{outOf}
 use Rattle.octave.specs.Memory.{prepared}
 use Rattle.octave.specs.Block.{blockOf}

@@ -1,7 +1,7 @@
 -- 01, Line memory and Refusal numbers: the block call for all inputs.
 use mathlib.Core.Path.{_≡_}
-use mathlib.Core.Bool.{Bool, true, false, not, cond}
-use mathlib.Core.List.{List, [], _∷_}
+use mathlib.Core.Bool.{true, not, cond}
+use mathlib.Core.List.{List, _∷_}
 use Prim.Native.Nat.{ℕ}
 use lib.Dec.{eqb, leb}
 use lib.ListN.{length, getD, drop}
@@ -14,7 +14,7 @@ use Rattle.octave.specs.declared.memory.Kept.the-variants.{Bands, CountW
 use Rattle.octave.specs.Range.{allWithin}
 use Rattle.octave.specs.Answer.{Answer, accepted, refused}
 use Rattle.octave.specs.Memory.{lineLength, keptOf}
-use Rattle.octave.specs.Run.{Ran, run}
+use Rattle.octave.specs.Run.{run}
 
 -- an answer, the memory and the output afterwards
 pub record Blocking : Type 0 where

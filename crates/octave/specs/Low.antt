@@ -1,6 +1,6 @@
 -- The low-pass sum over eleven samples.
 use mathlib.Core.Path.{_≡_}
-use Prim.Native.Nat.{ℕ, _≤_, _^_}
+use Prim.Native.Nat.{_≤_, _^_}
 use lib.IntN.{ℤ, pos, negsuc, natAbs, _+ℤ_, _*ℤ_}
 
 -- 01, Prototype: c(i)·x(i) at i = 0, 2, 4, 6, 8, 9, 10, 12, 14, 16, 18; the other coefficients are 0

@@ -8,7 +8,7 @@ use lib.IntN.{ℤ, pos}
 use Rattle.whole.specs.Nearest.{nearest}
 use Rattle.whole.specs.Limit.{limit, least24, most24}
 use Rattle.tree.specs.Prototype.{Prototype}
-use Rattle.octave.specs.Step.{Stepped, step, Differ}
+use Rattle.octave.specs.Step.{step, Differ}
 
 -- the place after `at` in a ring
 abbrev pub next : ℕ → ℕ → ℕ

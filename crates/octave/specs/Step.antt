@@ -1,7 +1,7 @@
 -- The cascade step on the lines' places, over any prototype p: the lines of `bands` bands one behind the other, each of
 -- `size` places, all at the position `at`; the stretch of the first is L. `g m` is the gain of band m.
 use mathlib.Core.Path.{_≡_}
-use mathlib.Core.List.{List, [], _∷_, _++_}
+use mathlib.Core.List.{List, _++_}
 use Prim.Native.Nat.{ℕ, zero, suc, _+_, _-_, _*_, _^_, _≤_, _<_}
 use lib.ListN.{length, getD, take, drop, set}
 use lib.IntN.{ℤ, pos, natAbs, _+ℤ_, _-ℤ_, _*ℤ_}

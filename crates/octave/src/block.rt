@@ -1,5 +1,4 @@
 // The block call.
-ghost use mathlib.Core.Path.{_≡_};
 ghost use Rattle.octave.specs.Answer.{blockAnswer};
 ghost use Rattle.octave.specs.Block.{blockOf, accept, Judged, Equalised, BlockDone};
 use crate::layout::line_length;

@@ -1,7 +1,4 @@
 // The low-pass sum: eleven products a line, none for a zero coefficient. One function with one contract.
-ghost use mathlib.Core.Path.{_≡_};
-ghost use Prim.Native.Nat.{_≤_, _^_};
-ghost use lib.IntN.{natAbs};
 ghost use Rattle.octave.specs.Low.{Weighed};
 use whole::products::multiply_add;
 

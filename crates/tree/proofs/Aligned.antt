@@ -1,17 +1,17 @@
 -- The aligned form: a held-back band is the difference of two aligned lines, so the gain sum goes by differences of
 -- neighbouring gains. It holds of any lines, the rounded and the exact ones alike. Assumes nothing.
-use mathlib.Core.Path.{_≡_, refl, sym, ap, ap₂, _∙_}
+use mathlib.Core.Path.{_≡_, sym, ap, ap₂, _∙_}
 use Prim.Native.Nat.{ℕ, zero, suc, _+_, _-_, _*_, _^_, _≤_, _<_}
 use native.Mathlib.Nat.{mul-le-mul-left, mul-sub, sub-self, mul-zero, pow-succ'}
 use native.Mathlib.Omega.{arith}
 use lib.Pow.{pow-pos, pow-mono}
 use lib.IntN.{ℤ, pos, _+ℤ_, _-ℤ_, _*ℤ_, *ℤ-zero, +ℤ-idr}
 use Rattle.whole.specs.Sum.{sum}
-use Rattle.whole.proofs.Signed.{var, lit, _⊕_, _⊖_, eq-by}
+use Rattle.whole.proofs.Signed.{var, lit, _⊖_, eq-by}
 use Rattle.whole.proofs.Sums.{sum-ext, abel}
 use Rattle.tree.specs.Prototype.{Prototype}
 use Rattle.tree.specs.Signal.{Signal, back}
-use Rattle.tree.specs.Tree.{delay, band, holdBack, heldBack, gainSum}
+use Rattle.tree.specs.Tree.{band, holdBack, heldBack, gainSum}
 use Rattle.tree.specs.Forms.{aligned, alignedSum}
 use Rattle.tree.proofs.Back.{back-zero, back-back, back--}
 use Rattle.tree.proofs.Delays.{hold-back-makes-delay}

@@ -1,9 +1,9 @@
 -- 01, demand 3: "Equal gains: that gain times the input, late by the stated delay, rounded once, limited." Assumes nothing.
-use mathlib.Core.Path.{_≡_, refl, sym, ap, ap₂, _∙_}
-use Prim.Native.Nat.{ℕ, zero, suc, _+_, _-_, _*_, _^_, _≤_, _<_}
+use mathlib.Core.Path.{_≡_, ap, ap₂, _∙_}
+use Prim.Native.Nat.{ℕ, suc, _+_, _-_, _*_, _^_, _≤_}
 use native.Mathlib.Nat.{sub-self}
 use native.Mathlib.Omega.{arith}
-use lib.IntN.{ℤ, pos, _+ℤ_, _-ℤ_, _*ℤ_, +ℤ-idr, zero-*ℤ}
+use lib.IntN.{ℤ, _+ℤ_, _-ℤ_, _*ℤ_, +ℤ-idr, zero-*ℤ}
 use Rattle.whole.specs.Nearest.{nearest}
 use Rattle.whole.specs.Limit.{limit, least24, most24}
 use Rattle.whole.proofs.Ring.{minus-self}

@@ -1,14 +1,14 @@
 -- The answer to a single sample a: c(i)·a at L·i, and nothing between. 01, Misbuilds: "Stretching by repeating coefficients;
 -- the gaps are zeros." Assumes nothing.
-use mathlib.Core.Path.{_≡_, refl, sym, ap, _∙_}
+use mathlib.Core.Path.{_≡_, refl, ap, _∙_}
 use mathlib.Core.List.{[], _∷_}
-use Prim.Native.Nat.{ℕ, zero, suc, _+_, _-_, _*_, _≤_, _<_}
+use Prim.Native.Nat.{ℕ, zero, suc, _-_, _*_, _<_}
 use native.Mathlib.Nat.{eq-of-mul-eq-mul-left, sub-self, le-refl}
 use native.Mathlib.Omega.{arith}
 use lib.IntN.{ℤ, pos, _*ℤ_, *ℤ-zero}
 use Rattle.whole.proofs.Sums.{sum-none, sum-only}
 use Rattle.tree.specs.Prototype.{Prototype, coefficient, taps}
-use Rattle.tree.specs.Signal.{Signal, back, signalOf}
+use Rattle.tree.specs.Signal.{back, signalOf}
 use Rattle.tree.specs.Tree.{weighted}
 use Rattle.tree.proofs.Back.{back-cases, back-in}
 

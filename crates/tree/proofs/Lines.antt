@@ -1,6 +1,6 @@
 -- The lines as the page walks them, and what a line at n can depend on. Assumes nothing.
-use mathlib.Core.Path.{_≡_, refl, sym, ap, _∙_}
-use Prim.Native.Nat.{ℕ, zero, suc, _+_, _-_, _*_, _^_, _≤_, _<_}
+use mathlib.Core.Path.{_≡_, refl, ap, _∙_}
+use Prim.Native.Nat.{ℕ, zero, suc, _-_, _*_, _^_, _≤_, _<_}
 use native.Mathlib.Nat.{sub-self}
 use native.Mathlib.Omega.{arith}
 use lib.IntN.{ℤ, pos, _*ℤ_, *ℤ-zero}
@@ -8,7 +8,7 @@ use Rattle.whole.specs.Nearest.{nearest}
 use Rattle.whole.proofs.Nearest.{nearest-zero}
 use Rattle.whole.proofs.Sums.{sum-ext, sum-none}
 use Rattle.tree.specs.Prototype.{Prototype, scale, coefficient, taps}
-use Rattle.tree.specs.Signal.{Signal, back}
+use Rattle.tree.specs.Signal.{Signal}
 use Rattle.tree.specs.Tree.{weighted, lowPass, level, line}
 use Rattle.tree.proofs.Back.{back-cases, back-ext}
 

@@ -1,17 +1,17 @@
 -- The recursive form: 01, The tree: "the low line is itself the same tree with one band fewer and the stretch doubled".
 -- Assumes nothing.
-use mathlib.Core.Path.{_≡_, refl, sym, ap, ap₂, _∙_}
-use Prim.Native.Nat.{ℕ, zero, suc, _+_, _-_, _*_, _^_, _≤_, _<_}
+use mathlib.Core.Path.{_≡_, sym, ap, ap₂, _∙_}
+use Prim.Native.Nat.{ℕ, zero, suc, _+_, _-_, _*_, _^_, _≤_}
 use native.Mathlib.Nat.{pow-succ', mul-sub, mul-one, mul-zero}
 use native.Mathlib.Omega.{arith}
 use lib.Pow.{pow-add}
-use lib.IntN.{ℤ, pos, _+ℤ_, _-ℤ_, _*ℤ_}
+use lib.IntN.{ℤ, _+ℤ_, _-ℤ_, _*ℤ_}
 use Rattle.whole.specs.Sum.{sum}
 use Rattle.whole.proofs.Signed.{var, lit, _⊕_, _⊖_, _⊗_, eq-by}
 use Rattle.whole.proofs.Sums.{sum-ext}
 use Rattle.tree.specs.Prototype.{Prototype}
 use Rattle.tree.specs.Signal.{Signal, back}
-use Rattle.tree.specs.Tree.{lowPass, level, line, gainSum}
+use Rattle.tree.specs.Tree.{level, line, gainSum}
 use Rattle.tree.specs.Forms.{treeDelay, treeSum, aligned}
 use Rattle.tree.proofs.Back.{back-zero}
 use Rattle.tree.proofs.Aligned.{rising, band-rises}

@@ -1,7 +1,7 @@
 -- 01, Prototype: the facts of the published table, computed. Assumes nothing.
 use mathlib.Core.Path.{_≡_, refl}
 use mathlib.Core.List.{[], _∷_, map, reverse}
-use lib.IntN.{ℤ, pos, negsuc}
+use lib.IntN.{pos, negsuc}
 use Rattle.whole.specs.Sum.{sum, sumℕ}
 use Rattle.tree.specs.Signal.{signalOf}
 use Rattle.tree.specs.Tree.{weighted}

@@ -1,17 +1,17 @@
 -- The laws of `limit`. The ends are variables; the 24-bit and the 32-bit ends are instances. Assumes nothing.
-use mathlib.Core.Path.{_≡_, refl, sym, ap, _∙_}
+use mathlib.Core.Path.{_≡_, refl}
 use mathlib.Core.Bool.{Bool, true, false, cond}
-use Prim.Native.Nat.{ℕ, zero, suc, _+_, _*_, _≤_, _<_, _^_}
+use Prim.Native.Nat.{ℕ, _+_, _*_, _≤_, _<_, _^_}
 use native.Mathlib.Nat.{le-refl, mul-le-mul-left, mul-lt-mul-of-pos-left}
 use lib.Dec.{T}
 use native.Mathlib.Omega.{arith}
-use lib.IntN.{ℤ, pos, negsuc, natAbs, _+ℤ_, _-ℤ_, _*ℤ_}
-use lib.Signed.{ltZ, mag, _≤ℤ_, _<ℤ_, ≤ℤ-refl, leZ-yes}
+use lib.IntN.{ℤ, pos, natAbs, _-ℤ_, _*ℤ_}
+use lib.Signed.{ltZ, _≤ℤ_, _<ℤ_, ≤ℤ-refl, leZ-yes}
 use mir.Syntax.{w32}
 use mir.Val.{SFits}
 use mir.Facts.{sfits-lit}
 use Rattle.whole.specs.Limit.{limit, least24, most24, least32, most32}
-use Rattle.whole.proofs.Signed.{up, down, var, lit, _⊕_, _⊖_, _⊗_, Near, eq-by, le-by, lt-by, abs-by, abs-of, mag-by, mag-of, le-of, lt-of, read-le, read-lt, ltZ-yes, ltZ-no, signed}
+use Rattle.whole.proofs.Signed.{up, down, var, lit, _⊖_, _⊗_, Near, eq-by, le-by, lt-by, abs-by, abs-of, mag-by, mag-of, le-of, lt-of, read-le, ltZ-yes, ltZ-no, signed}
 use Rattle.whole.proofs.Magnitude.{abs-sym}
 
 -- ---- which of the three it is

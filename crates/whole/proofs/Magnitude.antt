@@ -1,12 +1,12 @@
 -- The magnitude |a|, `natAbs`, of a sum, a difference, a negation and a product. Assumes nothing.
-use mathlib.Core.Path.{_≡_, refl, ap, sym, _∙_}
+use mathlib.Core.Path.{_≡_, refl, ap, _∙_}
 use mathlib.Core.Logic.{⊎-elim}
-use Prim.Native.Nat.{ℕ, zero, suc, _+_, _*_, _≤_, _<_, _^_}
-use native.Mathlib.Nat.{le-refl, zero-mul, mul-zero}
+use Prim.Native.Nat.{ℕ, zero, suc, _+_, _*_, _≤_, _<_}
+use native.Mathlib.Nat.{le-refl}
 use native.Mathlib.Omega.{arith}
 use lib.IntN.{ℤ, pos, negsuc, negℤ, natAbs, _+ℤ_, _-ℤ_, _*ℤ_}
-use lib.Signed.{mag, _≤ℤ_, _<ℤ_}
-use Rattle.whole.proofs.Signed.{up, down, var, lit, neg, _⊕_, _⊖_, _⊗_, Near, eq-by, le-by, abs-by, abs-of, le-of, lt-of, about, signed}
+use lib.Signed.{_≤ℤ_, _<ℤ_}
+use Rattle.whole.proofs.Signed.{var, lit, neg, _⊕_, _⊖_, _⊗_, eq-by, le-by, abs-by, abs-of, le-of, lt-of, about, signed}
 use Rattle.whole.proofs.Order.{≤ℤ-total, *ℤ-monoˡ-≤ℤ}
 
 pub abs-+ℤ : (a b : ℤ) → natAbs (a +ℤ b) ≤ natAbs a + natAbs b

@@ -1,14 +1,13 @@
 -- The laws of `nearest`. Assumes nothing.
 use mathlib.Core.Path.{_≡_, refl, sym, ap, _∙_}
-use mathlib.Core.Logic.{⊎-elim}
 use Prim.Native.Nat.{ℕ, zero, suc, _+_, _*_, _/_, _%_, _≤_, _<_}
-use native.Mathlib.Nat.{div-add-mod, mod-lt, div-zero, div-eq-of-lt, div-eq-of-lt-le, add-mul-div-left, mul-comm, zero-add, eq-zero-or-pos, zero-lt-suc, le-div-iff-mul-le, div-mul-le-self, mul-div-le}
+use native.Mathlib.Nat.{div-add-mod, mod-lt, div-eq-of-lt, div-eq-of-lt-le, zero-lt-suc, le-div-iff-mul-le, div-mul-le-self, mul-div-le}
 use native.Mathlib.Omega.{arith}
-use lib.IntN.{ℤ, pos, negsuc, negℤ, natAbs, _+ℤ_, _-ℤ_, _*ℤ_, negℤ-negℤ}
+use lib.IntN.{ℤ, pos, negsuc, negℤ, natAbs, _-ℤ_, _*ℤ_, negℤ-negℤ}
 use lib.Signed.{_≤ℤ_}
 use Rattle.whole.specs.Nearest.{nearest}
 use Rattle.whole.specs.Limit.{least24, most24}
-use Rattle.whole.proofs.Signed.{up, down, var, lit, neg, _⊕_, _⊖_, _⊗_, eq-by, le-by, abs-by, abs-of, read-le, about}
+use Rattle.whole.proofs.Signed.{up, down, var, lit, neg, _⊖_, _⊗_, eq-by, le-by, abs-by, read-le}
 use Rattle.whole.proofs.Magnitude.{abs-neg}
 
 -- the quotient on naturals

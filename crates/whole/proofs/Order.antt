@@ -2,12 +2,12 @@
 use mathlib.Core.Path.{_≡_, refl}
 use mathlib.Core.Logic.{_⊎_, inl, inr}
 use mathlib.Core.Bool.{Bool, true, false}
-use Prim.Native.Nat.{ℕ, zero, suc, _+_, _*_, _≤_}
+use Prim.Native.Nat.{ℕ, suc, _+_, _*_, _≤_}
 use native.Mathlib.Nat.{mul-le-mul-left, le-of-mul-le-mul-left, zero-lt-suc}
 use native.Mathlib.Omega.{arith}
-use lib.IntN.{ℤ, pos, negsuc, negℤ, _+ℤ_, _-ℤ_, _*ℤ_}
+use lib.IntN.{ℤ, pos, negℤ, _+ℤ_, _*ℤ_}
 use lib.Signed.{ltZ, _≤ℤ_, _<ℤ_}
-use Rattle.whole.proofs.Signed.{up, down, var, lit, neg, _⊕_, _⊖_, _⊗_, eq-by, le-by, lt-by, le-of, read-le, signed, ltZ-yes, ltZ-no}
+use Rattle.whole.proofs.Signed.{var, lit, neg, _⊕_, _⊗_, eq-by, le-by, lt-by, le-of, read-le, signed, ltZ-yes, ltZ-no}
 
 -- ---- order relations
 

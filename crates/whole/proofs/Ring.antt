@@ -1,7 +1,6 @@
 -- ℤ is a commutative ring: what the kit's `lib.IntN` lacks. (It has +ℤ-comm, +ℤ-assoc, +ℤ-idl, +ℤ-idr, +ℤ-invl, +ℤ-invr,
 -- negℤ-+ℤ, negℤ-negℤ, *ℤ-comm, *ℤ-one, *ℤ-zero, zero-*ℤ.) Assumes nothing.
 use mathlib.Core.Path.{_≡_}
-use Prim.Native.Nat.{ℕ}
 use native.Mathlib.Omega.{arith}
 use lib.IntN.{ℤ, pos, negℤ, _+ℤ_, _-ℤ_, _*ℤ_}
 use Rattle.whole.proofs.Signed.{var, lit, neg, _⊕_, _⊖_, _⊗_, eq-by}

@@ -1,17 +1,17 @@
 -- What the code of `rounding` asks: the sum fits, the quotient fits, the answer is `nearest`. Once over the divisor d and
 -- its half; a number is written as the machine reads it back, `raw`. Assumes nothing.
-use mathlib.Core.Path.{_≡_, refl, sym, ap, subst, _∙_}
-use mathlib.Core.Bool.{Bool, true, false}
-use Prim.Native.Nat.{ℕ, zero, suc, _+_, _*_, _/_, _≤_, _<_, _^_}
-use native.Mathlib.Nat.{le-mul-of-pos-right, mul-comm}
+use mathlib.Core.Path.{_≡_, refl, sym, ap}
+use mathlib.Core.Bool.{true, false}
+use Prim.Native.Nat.{ℕ, suc, _+_, _/_, _≤_, _<_, _^_}
+use native.Mathlib.Nat.{le-mul-of-pos-right}
 use native.Mathlib.Omega.{arith}
 use lib.IntN.{ℤ, pos, negsuc, negℤ, natAbs, _+ℤ_, _-ℤ_}
-use lib.Signed.{mag, ltZ, quotZ}
+use lib.Signed.{ltZ, quotZ}
 use mir.Syntax.{Width, w64}
 use mir.Val.{SFits, toZ, ofZ}
 use mir.Facts.{toZ-ofZ}
 use Rattle.whole.specs.Nearest.{nearest}
-use Rattle.whole.proofs.Signed.{up, down, var, lit, _⊕_, _⊖_, abs-of, mag-by, about, ltZ-yes, ltZ-no}
+use Rattle.whole.proofs.Signed.{var, lit, _⊕_, _⊖_, mag-by, about, ltZ-yes, ltZ-no}
 use Rattle.whole.proofs.Nearest.{nearest-abs}
 
 -- a number as the machine reads it back from its bits

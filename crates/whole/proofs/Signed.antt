@@ -2,13 +2,12 @@
 -- naturals, p - n. A `Diff` mirrors the ℤ term that it stands for (`z` computes to that term), and five laws turn what is
 -- asked of z into a fact on p and n that `omega` settles. Products are multiplied out by `omega` itself.
 -- Assumes nothing.
-use mathlib.Core.Path.{_≡_, refl, sym, ap, ap₂, _∙_, subst}
+use mathlib.Core.Path.{_≡_, refl, sym, ap, subst}
 use mathlib.Core.Bool.{Bool, true, false, not, cond}
 use Prim.Native.Nat.{ℕ, zero, suc, _+_, _*_, _-_, _≤_, _<_, min, pred}
-use native.Mathlib.Nat.{mul-add, add-mul}
 use native.Mathlib.Omega.{arith}
 use lib.Dec.{T, ltb, leb, ltb→lt, nltb→le, leb→le, le→leb, lt→ltb}
-use lib.IntN.{ℤ, pos, negsuc, negℤ, natAbs, subℕ, _+ℤ_, _-ℤ_, _*ℤ_}
+use lib.IntN.{ℤ, pos, negsuc, negℤ, natAbs, subℕ, _+ℤ_, _*ℤ_}
 use lib.Signed as S
 use lib.Signed.{mag, ltZ, leZ, _≤ℤ_, _<ℤ_}
 use borrow.Author.Tests.{leb-false}

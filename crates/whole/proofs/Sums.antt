@@ -3,13 +3,13 @@ use mathlib.Core.Path.{_≡_, refl, sym, ap, ap₂, _∙_}
 use Prim.Native.Nat.{ℕ, zero, suc, _+_, _*_, _≤_, _<_}
 use native.Mathlib.Nat.{le-refl, le-trans, add-le-add, lt-suc-self, zero-mul, add-mul, mul-le-mul-left}
 use native.Mathlib.Omega.{arith}
-use lib.IntN.{ℤ, pos, negℤ, natAbs, _+ℤ_, _-ℤ_, _*ℤ_, +ℤ-idl, +ℤ-idr, *ℤ-zero}
+use lib.IntN.{ℤ, pos, natAbs, _+ℤ_, _-ℤ_, _*ℤ_, +ℤ-idl, +ℤ-idr, *ℤ-zero}
 use lib.Signed.{_≤ℤ_, ≤ℤ-refl}
 use lib.Dec.{eqb}
 use mathlib.Core.Bool.{Bool, true, false}
 use borrow.Author.Tests.{eqb-true, eqb-false}
 use Rattle.whole.specs.Sum.{sum, sumℕ}
-use Rattle.whole.proofs.Signed.{up, down, var, lit, neg, _⊕_, _⊖_, _⊗_, eq-by, eq-of}
+use Rattle.whole.proofs.Signed.{var, lit, _⊕_, _⊖_, _⊗_, eq-by}
 use Rattle.whole.proofs.Ring.{*ℤ-distribˡ-+ℤ}
 use Rattle.whole.proofs.Order.{+ℤ-mono-≤ℤ}
 use Rattle.whole.proofs.Magnitude.{abs-+ℤ, abs-*ℤ}

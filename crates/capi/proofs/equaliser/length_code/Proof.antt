@@ -1,5 +1,5 @@
 -- `equaliser::length_code` meets its contract: each case is encoded as its number or its value. Assumes nothing.
-use mathlib.Core.Path.{_≡_, sym, ap, _∙_, subst}
+use mathlib.Core.Path.{sym, ap, _∙_, subst}
 use Rattle.octave.specs.Answer.{lengthAnswer}
 use Rattle.capi.specs.Encode.{encode}
 use Rattle.capi.specs.Answers.{ofOctave, Counted}

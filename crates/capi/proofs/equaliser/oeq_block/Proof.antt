@@ -1,5 +1,5 @@
 -- `equaliser::oeq_block` meets its contract: the library call's answer, encoded. Assumes nothing.
-use mathlib.Core.Path.{_≡_, sym, ap, subst, _∙_}
+use mathlib.Core.Path.{sym, ap, subst, _∙_}
 use Rattle.octave.specs.Answer.{Answer}
 use Rattle.capi.specs.Encode.{encode}
 use Rattle.capi.specs.Answers.{ofOctave, Counted}

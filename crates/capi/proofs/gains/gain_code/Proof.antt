@@ -1,5 +1,5 @@
 -- `gains::gain_code` meets its contract: each case is encoded as its number or its value. Assumes nothing.
-use mathlib.Core.Path.{_≡_, sym, ap, _∙_}
+use mathlib.Core.Path.{sym, ap, _∙_}
 use Rattle.gain.specs.Answer.{answerOf}
 use Rattle.capi.specs.Encode.{encode}
 use Rattle.capi.specs.Answers.{ofGain}

@@ -1,5 +1,5 @@
 -- `waves::oeq_sample_from_bytes` meets its contract: the library call's answer, encoded. Assumes nothing.
-use mathlib.Core.Path.{_≡_, sym, ap, subst, _∙_}
+use mathlib.Core.Path.{ap, _∙_}
 use lib.IntN.{ℤ}
 use Rattle.wave.specs.Answer.{Answer}
 use Rattle.capi.specs.Encode.{encode}

@@ -1,5 +1,5 @@
 -- `waves::oeq_sample_to_bytes` meets its contract: the library call's answer, encoded. Assumes nothing.
-use mathlib.Core.Path.{_≡_, sym, ap, subst, _∙_}
+use mathlib.Core.Path.{sym, ap, subst, _∙_}
 use mathlib.Core.List.{List}
 use Prim.Native.Nat.{ℕ}
 use Rattle.wave.specs.Answer.{Answer}

@@ -1,5 +1,5 @@
 -- `waves::put_code` meets its contract: each case is encoded as its number or its value. Assumes nothing.
-use mathlib.Core.Path.{_≡_, sym, ap, _∙_, subst}
+use mathlib.Core.Path.{sym, ap, _∙_, subst}
 use Rattle.wave.specs.Sample.{putAnswer}
 use Rattle.capi.specs.Encode.{encode}
 use Rattle.capi.specs.Answers.{ofCount, CountedBytes}

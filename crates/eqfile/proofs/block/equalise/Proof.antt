@@ -1,8 +1,6 @@
 -- `block::equalise` meets its contract: each call's promise in turn. Assumes nothing.
-use mathlib.Core.Path.{_≡_, sym, ap, subst, _∙_}
-use mathlib.Core.List.{List}
+use mathlib.Core.Path.{ap, subst}
 use Prim.Native.Nat.{ℕ}
-use lib.IntN.{ℤ}
 use denote.Ref.{now}
 use Rattle.wave.specs.Block.{storedAnswer}
 use Rattle.octave.specs.Answer.{blockAnswer}

@@ -1,5 +1,5 @@
 -- `half::place_of` meets its contract: digits after a minus, or with none. Assumes nothing.
-use mathlib.Core.Path.{_≡_, sym, ap, _∙_}
+use mathlib.Core.Path.{sym, ap, _∙_}
 use native.Mathlib.Omega.{arith}
 use denote.Ref.{now}
 use Rattle.eqfile.specs.Code.{digitsAnswer}

@@ -1,7 +1,6 @@
 -- `order::begin` meets its contract: the arguments, then the header, then the length. Assumes nothing.
-use mathlib.Core.Path.{_≡_, sym, ap, _∙_}
+use mathlib.Core.Path.{sym, ap, _∙_}
 use denote.Ref.{now}
-use Rattle.wave.specs.Walk.{readAnswer}
 use Rattle.eqfile.specs.declared.taking.Arguments.{Arguments}
 use Rattle.eqfile.specs.Arguments.{argumentsAnswer}
 use Rattle.eqfile.specs.Start.{planOf, startOf, startAnswer}

@@ -1,5 +1,5 @@
 -- `order::plan` meets its contract. Assumes nothing.
-use mathlib.Core.Path.{_≡_, sym, ap, _∙_}
+use mathlib.Core.Path.{sym, ap, _∙_}
 use native.Mathlib.Omega.{arith}
 use Rattle.wave.specs.Walk.{readAnswer}
 use Rattle.wave.specs.declared.reader.Reading.{Reading}

@@ -1,5 +1,5 @@
 -- `taking::front_length` meets its contract. Assumes nothing.
-use mathlib.Core.Path.{_≡_, sym, ap, _∙_}
+use mathlib.Core.Path.{sym, ap, _∙_}
 use Rattle.eqfile.specs.declared.taking.Arguments.{Arguments}
 use Rattle.eqfile.specs.Arguments.{frontLength, argumentsAnswer}
 use Rattle.eqfile.proofs.Takings.{no-front}

@@ -1,8 +1,8 @@
 -- `run::blocks` is safe and ends: each turn feeds at least one sample. Assumes nothing.
-use mathlib.Core.Path.{_≡_, refl, sym, _∙_}
-use Prim.Native.Nat.{_+_, _-_, _≤_}
+use mathlib.Core.Path.{refl, sym, _∙_}
+use Prim.Native.Nat.{_-_}
 use native.Mathlib.Omega.{arith}
-use lib.ListN.{length, take, length-take}
+use lib.ListN.{length-take}
 use lib.Seq.{length-take-le}
 use Rattle.eqfile.proofs.Plans.{Bounds, bounds}
 use Rattle.eqwave.proofs.Going.{Going, Buffers, in-front, block-read, room}

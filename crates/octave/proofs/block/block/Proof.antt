@@ -1,13 +1,11 @@
 -- `block::block` meets its contract: each return has the tests that led there. Assumes nothing.
 use mathlib.Core.Path.{_≡_, sym, _∙_}
-use mathlib.Core.Bool.{true, false}
+use mathlib.Core.Bool.{true}
 use Prim.Native.Nat.{ℕ}
 use borrow.Author.Needs.{needs}
 use borrow.Author.Tests.{not-true, not-false}
-use lib.ListN.{length}
 use lib.IntN.{pos}
 use denote.Ref.{now}
-use Rattle.whole.specs.Limit.{least24, most24}
 use Rattle.octave.specs.declared.memory.Kept.the-variants.{Bands}
 use Rattle.octave.specs.Range.{allWithin}
 use Rattle.octave.specs.Memory.{keptOf}

@@ -1,19 +1,17 @@
 -- `block::equalise` meets its contract. Assumes nothing.
-use mathlib.Core.Path.{_≡_, ap, sym, subst, _∙_}
+use mathlib.Core.Path.{_≡_, ap, sym, subst}
 use Prim.Native.Nat.{ℕ, _-_, _<_}
 use native.Mathlib.Omega.{arith}
 use borrow.Author.Needs.{needs, sfits-of}
 use borrow.Rule.Slice.PartMut.{putMid, same-len-mid}
-use lib.ListN.{length, getD, take, drop}
+use lib.ListN.{length, getD}
 use lib.IntN.{pos, natAbs}
 use denote.Ref.{now}
 use mir.Syntax.{w32}
 use mir.Val.{SFits}
 use mir.Facts.{toZ-ofZ, fits-natAbs}
 use Rattle.whole.proofs.Rounded.{raw}
-use Rattle.tree.specs.Prototype.{published}
-use Rattle.tree.specs.Signal.{gainOf}
-use Rattle.octave.specs.Run.{run, RunDone}
+use Rattle.octave.specs.Run.{run}
 use Rattle.octave.proofs.Keeping.{not-negative}
 use Rattle.octave.proofs.Blocking.{Accepted, accepted-is, region-is, allowed-gains, position-small, equalised}
 use Rattle.octave.proofs.block.equalise.Statement.{statement}

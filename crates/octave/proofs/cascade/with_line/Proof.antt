@@ -1,5 +1,4 @@
 -- `cascade::with_line` meets its contract. Assumes nothing.
-use mathlib.Core.Path.{_∙_}
 use borrow.Author.Needs.{needs}
 use Rattle.octave.proofs.Differing.{Added, added}
 use Rattle.octave.proofs.cascade.with_line.Statement.{statement}

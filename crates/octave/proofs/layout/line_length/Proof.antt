@@ -3,8 +3,6 @@ use Rattle.octave.proofs.Layouts.{shift-exact}
 use borrow.Author.Needs.{needs}
 use Rattle.octave.proofs.layout.line_length.Statement.{statement}
 use Rattle.octave.proofs.layout.line_length.Tie as tie
-use Rattle.octave.proofs.layout.line_length.Reads as reads
-use Rattle.octave.proofs.layout.line_length.Lts as lts
 
 -- src/layout.rt:11:11
 sub-result : tie.Need-sub-result

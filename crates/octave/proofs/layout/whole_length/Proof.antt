@@ -6,9 +6,6 @@ use Rattle.octave.proofs.Layouts.{lines-small}
 use borrow.Author.Needs.{needs}
 use Rattle.octave.proofs.layout.whole_length.Statement.{statement}
 use Rattle.octave.proofs.layout.whole_length.Tie as tie
-use Rattle.octave.proofs.layout.whole_length.Reads as reads
-use Rattle.octave.proofs.layout.whole_length.Lts as lts
-use Rattle.octave.proofs.layout.line_length.Reads as line-length-reads
 
 -- src/layout.rt:19:10
 sub-result : tie.Need-sub-result

@@ -10,8 +10,6 @@ use Rattle.octave.proofs.Taps.{ahead-in, ahead-round}
 use borrow.Author.Needs.{needs}
 use Rattle.octave.proofs.line.aligned.Statement.{statement}
 use Rattle.octave.proofs.line.aligned.Tie as tie
-use Rattle.octave.proofs.line.aligned.Reads as reads
-use Rattle.octave.proofs.line.aligned.Lts as lts
 
 -- src/line.rt:77:22
 mul-ahead : tie.Need-mul-ahead

@@ -1,8 +1,7 @@
 -- `line::far_wraps` meets its contract: what is not older than 9·l is read in a window, the rest at its places in the ring. Assumes nothing.
-use Prim.Native.Nat.{_+_, _-_, _*_, _<_}
+use Prim.Native.Nat.{_+_, _-_, _*_}
 use native.Mathlib.Omega.{arith}
 use lib.Dec.{lit≤}
-use lib.ListN.{length}
 use denote.Ref.{now}
 use borrow.Author.Needs.{needs}
 use Rattle.octave.proofs.Taps.{summed, read-new, place-back, place-round, read-place, read-window}

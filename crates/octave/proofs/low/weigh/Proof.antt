@@ -1,7 +1,6 @@
 -- `low::weigh` meets its contract: each product is added to a sum that is known and small. Assumes nothing.
-use Prim.Native.Nat.{suc, _^_}
+use Prim.Native.Nat.{_^_}
 use borrow.Author.Needs.{needs}
-use native.Mathlib.Omega.{arith}
 use lib.Dec.{lit≤}
 use lib.IntN.{ℤ, pos, negsuc, _+ℤ_, _*ℤ_}
 use Rattle.octave.proofs.Adding.{Sum, none, more, sum-raw, sum-small}

@@ -1,13 +1,13 @@
 -- `memory::memory_length` meets its contract. Assumes nothing.
-use mathlib.Core.Path.{_≡_, ap, _∙_}
-use mathlib.Core.Bool.{true, false}
+use mathlib.Core.Path.{_≡_, ap}
+use mathlib.Core.Bool.{true}
 use native.Mathlib.Omega.{arith}
 use borrow.Author.Needs.{needs}
 use borrow.Author.Tests.{not-true, not-false}
 use lib.IntN.{pos}
 use mir.Facts.{toZ-ofZ}
 use Rattle.octave.specs.Answer.{accepted}
-use Rattle.octave.specs.Memory.{countAllowed, memoryLength}
+use Rattle.octave.specs.Memory.{countAllowed}
 use Rattle.octave.proofs.Ranges.{Count, count-of, test-is}
 use Rattle.octave.proofs.memory.memory_length.Statement.{statement}
 use Rattle.octave.proofs.memory.memory_length.Tie as tie

@@ -1,17 +1,16 @@
 -- `memory::prepare` meets its contract. Assumes nothing.
-use mathlib.Core.Path.{_≡_, sym, ap, subst, _∙_}
-use mathlib.Core.Bool.{true, false}
-use Prim.Native.Nat.{ℕ, _-_}
+use mathlib.Core.Path.{_≡_, sym, ap, _∙_}
+use mathlib.Core.Bool.{true}
+use Prim.Native.Nat.{_-_}
 use native.Mathlib.Omega.{arith}
 use borrow.Author.Needs.{needs}
 use borrow.Author.Tests.{not-true, not-false}
 use lib.Pow.{pow-pos}
-use lib.ListN.{length, set}
+use lib.ListN.{length}
 use lib.IntN.{ℤ, pos, natAbs}
 use denote.Ref.{now}
 use mir.Facts.{toZ-ofZ}
-use Rattle.octave.specs.Answer.{accepted}
-use Rattle.octave.specs.Memory.{lineLength, memoryLength, countAllowed, prepareOf, PrepareDone}
+use Rattle.octave.specs.Memory.{lineLength, memoryLength, countAllowed}
 use Rattle.octave.proofs.Ranges.{Count, count-of, test-is}
 use Rattle.octave.proofs.Keeping.{prepare-count, prepare-length, prepare-done}
 use Rattle.octave.proofs.memory.prepare.Statement.{statement}

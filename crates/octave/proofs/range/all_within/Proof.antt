@@ -11,9 +11,6 @@ use Rattle.octave.specs.Range.{allWithin}
 use Rattle.octave.proofs.Ranges.{all-stops, all-goes-on, all-ends}
 use Rattle.octave.proofs.range.all_within.Statement.{statement}
 use Rattle.octave.proofs.range.all_within.Tie as tie
-use Rattle.octave.proofs.range.all_within.Reads as reads
-use Rattle.octave.proofs.range.all_within.Lts as lts
-use Rattle.octave.proofs.range.within.Reads as within-reads
 
 abbrev Inv-loop : tie.InvT-loop
 Inv-loop lo hi s i₀ i =

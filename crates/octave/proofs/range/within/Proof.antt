@@ -1,6 +1,5 @@
 -- `range::within` meets its contract. Assumes nothing.
-use mathlib.Core.Path.{_≡_, refl, sym, ap₂, _∙_}
-use mathlib.Core.Bool.{false, cond}
+use mathlib.Core.Path.{ap₂}
 use lib.Signed.{leZ}
 use mir.Facts.{toZ-ofZ}
 use Rattle.octave.proofs.Ranges.{below-lo, not-below-lo}

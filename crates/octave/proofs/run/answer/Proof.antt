@@ -1,6 +1,5 @@
 -- `run::answer` meets its contract. Assumes nothing.
 use borrow.Author.Needs.{needs}
-use Prim.Native.Nat.{_^_}
 use native.Mathlib.Nat.{le-trans}
 use lib.Dec.{lit≤}
 use denote.Ref.{now}

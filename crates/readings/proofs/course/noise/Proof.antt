@@ -1,6 +1,5 @@
 -- `course::noise` is safe: a number of 24 bits less 2^23 fits. Assumes nothing.
-use Prim.Native.Nat.{ℕ, _%_, _/_, _<_, _≤_, _^_}
-use native.Mathlib.Nat.{mod-lt}
+use Prim.Native.Nat.{ℕ, _%_, _/_, _<_}
 use native.Mathlib.Decide.{decLt}
 use native.Mathlib.Omega.{arith}
 use borrow.Author.Needs.{needs}

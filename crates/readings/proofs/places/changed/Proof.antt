@@ -1,5 +1,4 @@
 -- `places::changed` is safe and ends: the place counts up to the shorter list's length, and no more places differ. Assumes nothing.
-use mathlib.Core.Path.{_≡_}
 use Prim.Native.Nat.{_≤_, _-_}
 use native.Mathlib.Omega.{arith}
 use lib.ListN.{length}
