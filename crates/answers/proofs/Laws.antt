@@ -1,0 +1,124 @@
+-- The laws of a list of checks: accepted exactly if no check fails, else the case of the first that does, and every lent place
+-- as before. Each call cites them. Assumes nothing.
+use mathlib.Core.Path.{_≡_, refl, sym, ap, _∙_}
+use mathlib.Core.Logic.{_⊎_, inl, inr}
+use mathlib.Core.Bool.{Bool, true, false, cond, _&&_, false≢true}
+use mathlib.Core.List.{List, [], _∷_}
+use Prim.Native.Nat.{ℕ, _<_}
+use native.Mathlib.Omega.{arith}
+use borrow.Author.Tests.{ltb-true}
+use lib.Dec.{ltb, lit<}
+use Rattle.answers.specs.Answer.{Answer, accepted, numberIn}
+use Rattle.answers.specs.Checks.{Check, check, Outcome, decide, Done}
+use Rattle.answers.specs.Judging.{allHold, First, here, later, Each, allRefuse}
+
+pub and-left : (a b : Bool) → (a && b) ≡ true → a ≡ true
+and-left true b h = refl
+and-left false b h = h
+
+pub and-right : (a b : Bool) → (a && b) ≡ true → b ≡ true
+and-right true b h = h
+and-right false b h = absurd (false≢true h)
+
+-- ---- the three steps of a call's proof: it refuses here, it goes on, it accepts
+
+module _ (R L : Type 0) (before after : L) (result r : R) where
+  pub refuses : (test : Bool) (case : R) (cs : List (Check R)) → test ≡ false → r ≡ case →
+      Done (decide (record { holds = test; otherwise = case } ∷ cs) before result after) r before
+  unfolding decide
+  refuses test case cs e d = rw (e, d) (record { result-is = refl; lent-is = refl })
+
+  pub refuses-here : (test : Bool) (cs : List (Check R)) → test ≡ false → Done (decide (record { holds = test; otherwise = r } ∷ cs) before result after) r before
+  refuses-here test cs e = refuses test r cs e refl
+
+  pub goes-on : (lent : L) (test : Bool) (case : R) (cs : List (Check R)) → test ≡ true → Done (decide cs before result after) r lent →
+      Done (decide (record { holds = test; otherwise = case } ∷ cs) before result after) r lent
+  unfolding decide
+  goes-on lent test case cs e d = rw e d
+
+  pub accepts : (lent : L) → r ≡ result → lent ≡ after → Done (decide [] before result after) r lent
+  unfolding decide
+  accepts lent e d = record { result-is = e; lent-is = d }
+
+-- ---- accepted if none fails, else the first that fails
+
+module _ {R L : Type 0} (before after : L) (result : R) where
+  pub all-accept : (cs : List (Check R)) → allHold cs ≡ true → decide cs before result after ≡ record { result = result; lent = after }
+  unfolding decide allHold
+  all-accept [] e = refl
+  all-accept (c ∷ cs) e = rw (and-left (c .holds) (allHold cs) e) (all-accept cs (and-right (c .holds) (allHold cs) e))
+
+  pub first-refuses : {cs : List (Check R)} {r : R} → First cs r → decide cs before result after ≡ record { result = r; lent = before }
+  unfolding decide
+  first-refuses (here e) = rw e
+  first-refuses (later e f) = rw e (first-refuses f)
+
+  -- what holds of each case under the tests that lead to it holds of the answer
+  pub every : (P : R → Type 0) (cs : List (Check R)) → Each P cs result → P (decide cs before result after .result)
+  unfolding decide Each
+  every P [] h = h
+  every P (c ∷ cs) h = by (c .holds) (h .0) (λ e. every P cs (h .1 e))
+    where
+      by : (t : Bool) → (t ≡ false → P (c .otherwise)) → (t ≡ true → P (decide cs before result after .result)) →
+          P (cond t (decide cs before result after) (record { result = c .otherwise; lent = before }) .result)
+      by true f g = g refl
+      by false f g = f refl
+
+pub all-or-first : {R : Type 0} (cs : List (Check R)) → (allHold cs ≡ true) ⊎ ((r : R) × First cs r)
+unfolding allHold
+all-or-first [] = inl refl
+all-or-first {R} (c ∷ cs) = by (c .holds) refl (all-or-first cs)
+  where
+    by : (t : Bool) → c .holds ≡ t → (allHold cs ≡ true) ⊎ ((r : R) × First cs r) → ((t && allHold cs) ≡ true) ⊎ ((r : R) × First (c ∷ cs) r)
+    by false e h = inr (c .otherwise, here e)
+    by true e (inl h) = inl h
+    by true e (inr h) = inr (h .0, later e (h .1))
+
+-- ---- in the rule book's numbers
+
+first-numbered : {R A : Type 0} (answerOf : R → Answer A) {cs : List (Check R)} {r : R} → allRefuse answerOf cs ≡ true → First cs r →
+    ltb 0 (numberIn (answerOf r)) ≡ true
+unfolding allRefuse
+first-numbered answerOf e (here {r = r} {cs = cs} d) = and-left (ltb 0 (numberIn (answerOf r))) (allRefuse answerOf cs) e
+first-numbered answerOf e (later {case = x} {cs = cs} d h) =
+    first-numbered answerOf (and-right (ltb 0 (numberIn (answerOf x))) (allRefuse answerOf cs) e) h
+
+module _ {R L A : Type 0} (answerOf : R → Answer A) (cs : List (Check R)) (before after : L) (result : R) where
+  -- an accepted answer: no check failed
+  pub accepted-holds : (a : A) → allRefuse answerOf cs ≡ true → answerOf (decide cs before result after .result) ≡ accepted a → allHold cs ≡ true
+  accepted-holds a e d = by (all-or-first cs)
+    where
+      by : (allHold cs ≡ true) ⊎ ((r : R) × First cs r) → allHold cs ≡ true
+      by (inl h) = h
+      by (inr h) =
+          let f : ltb 0 (numberIn (answerOf (h .0))) ≡ true = first-numbered answerOf e (h .1) in
+          let g : answerOf (h .0) ≡ accepted a = sym (ap (λ (o : Outcome R L). answerOf (o .result)) (first-refuses before after result (h .1))) ∙ d in
+          absurd (false≢true (sym (ap (λ (x : Answer A). ltb 0 (numberIn x)) g) ∙ f))
+
+  -- a refusal leaves every lent place as it was
+  pub refused-keeps : (numberIn (answerOf (decide cs before result after .result)) ≡ 0 → ⊥) → numberIn (answerOf result) ≡ 0 →
+      decide cs before result after .lent ≡ before
+  refused-keeps n z = by (all-or-first cs)
+    where
+      by : (allHold cs ≡ true) ⊎ ((r : R) × First cs r) → decide cs before result after .lent ≡ before
+      by (inl h) = absurd (n (ap (λ (o : Outcome R L). numberIn (answerOf (o .result))) (all-accept before after result cs h) ∙ z))
+      by (inr h) = ap (λ (o : Outcome R L). o .lent) (first-refuses before after result (h .1))
+
+-- ---- no second answer fits, of any call
+
+pub one-answer : {R L : Type 0} {o : Outcome R L} {r q : R} {l m : L} → Done o r l → Done o q m → (r ≡ q) × (l ≡ m)
+one-answer d e = (d .result-is ∙ sym (e .result-is), d .lent-is ∙ sym (e .lent-is))
+
+-- ---- for search: P of each case
+
+module _ (R : Type 0) (P : R → Type 0) (result : R) where
+  pub each-end : P result → Each P [] result
+  unfolding Each
+  each-end h = h
+
+  pub each-next : (test : Bool) (case : R) (cs : List (Check R)) → (test ≡ false → P case) → (test ≡ true → Each P cs result) →
+      Each P (record { holds = test; otherwise = case } ∷ cs) result
+  unfolding Each
+  each-next test case cs f g = (f, g)
+
+pub ruleset eaching = (each-end, each-next, lit<)

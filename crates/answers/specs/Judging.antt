@@ -1,0 +1,32 @@
+-- Bookkeeping of proofs and of private functions: a reader of the promises needs none of it.
+use mathlib.Core.Path.{_≡_}
+use mathlib.Core.Bool.{Bool, true, false, cond, _&&_}
+use mathlib.Core.List.{List, [], _∷_}
+use lib.Dec.{ltb}
+use Rattle.answers.specs.Answer.{Answer, numberIn}
+use Rattle.answers.specs.Checks.{Check, check}
+
+-- no check fails
+unfoldable pub allHold : {R : Type 0} → List (Check R) → Bool
+allHold [] = true
+allHold (c ∷ cs) = c .holds && allHold cs
+
+-- r is the case of the first check that fails
+pub data First {R : Type 0} : List (Check R) → R → Type 0 where
+  here : {test : Bool} {r : R} {cs : List (Check R)} → test ≡ false → First (check test r ∷ cs) r
+  later : {test : Bool} {case r : R} {cs : List (Check R)} → test ≡ true → First cs r → First (check test case ∷ cs) r
+
+-- P of every case that may be answered, each under the tests that lead to it
+unfoldable pub Each : {R : Type 0} → (R → Type 0) → List (Check R) → R → Type 0
+Each P [] result = P result
+Each P (c ∷ cs) result = (c .holds ≡ false → P (c .otherwise)) × (c .holds ≡ true → Each P cs result)
+
+-- every case of the list is a refusal: it has a number
+unfoldable pub allRefuse : {R A : Type 0} → (R → Answer A) → List (Check R) → Bool
+allRefuse answerOf [] = true
+allRefuse answerOf (c ∷ cs) = ltb 0 (numberIn (answerOf (c .otherwise))) && allRefuse answerOf cs
+
+-- the answer of a group of checks that a function of its own makes, the result where none fails
+unfoldable pub choose : {R : Type 0} → List (Check R) → R → R
+choose [] result = result
+choose (c ∷ cs) result = cond (c .holds) (choose cs result) (c .otherwise)

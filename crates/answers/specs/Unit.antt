@@ -1,0 +1,44 @@
+-- The unit's numbers, each named once (src/unit.rt has the same names for the code).
+use Prim.Native.Nat.{ℕ}
+use lib.IntN.{ℤ, pos, negsuc}
+
+-- the least and the largest number of bands
+abbrev pub fewestBands : ℤ
+fewestBands = pos 2
+
+abbrev pub mostBands : ℤ
+mostBands = pos 10
+
+-- the ends of the sample range, 24 bits
+abbrev pub leastSample : ℤ
+leastSample = negsuc 8388607
+
+abbrev pub mostSample : ℤ
+mostSample = pos 8388607
+
+-- the largest magnitude of a sample
+abbrev pub largestSample : ℕ
+largestSample = 8388608
+
+-- the ends of a lent place, 32 bits
+abbrev pub leastPlace : ℤ
+leastPlace = negsuc 2147483647
+
+abbrev pub mostPlace : ℤ
+mostPlace = pos 2147483647
+
+-- gains go from 0 to here
+abbrev pub largestGain : ℕ
+largestGain = 16384
+
+-- the gain that changes nothing
+abbrev pub unity : ℕ
+unity = 4096
+
+-- the most samples of a block
+abbrev pub blockLimit : ℕ
+blockLimit = 4096
+
+-- the most bytes that a header's reader looks at
+abbrev pub frontLength : ℕ
+frontLength = 4096
