@@ -11,8 +11,8 @@ use lib.IntN.{ℤ}
 use lib.Dec.{eqb, leb}
 use borrow.Author.Tests.{eq-eqb, eqb-true, leb-true}
 use Rattle.answers.specs.Answer.{accepted}
-use Rattle.answers.specs.Checks.{Outcome, Done}
-use Rattle.answers.specs.Judging.{allHold, allRefuse}
+use Rattle.answers.specs.Checks.{allHold, Outcome, Done}
+use Rattle.answers.specs.Judging.{allRefuse}
 use Rattle.answers.specs.Range.{within}
 use Rattle.answers.specs.Unit.{leastSample, mostSample, frontLength}
 use Rattle.answers.proofs.Laws.{and-left, and-right, accepted-holds, all-accept}
