@@ -28,39 +28,13 @@ bits-small n h = by-test (eqb n 16) (λ t. omega (arith, eqb-true n 16 t)) (λ t
 
 -- ---- the right values
 
-module _ (tag channels rate byteRate block bits : ℕ) where
-  pub right-tag : (tag ≡ 1 → ⊥) → false ≡ right tag channels rate byteRate block bits
-  unfolding right
-  right-tag h = rw (ne-eqb tag 1 h)
-
-  pub right-channels : tag ≡ 1 → (channels ≡ 1 → ⊥) → false ≡ right tag channels rate byteRate block bits
-  unfolding right
-  right-channels t h = rw (eq-eqb tag 1 t, ne-eqb channels 1 h)
-
-  pub right-rate : tag ≡ 1 → channels ≡ 1 → knownRate rate ≡ false → false ≡ right tag channels rate byteRate block bits
-  unfolding right
-  right-rate t h k = rw (eq-eqb tag 1 t, eq-eqb channels 1 h, k)
-
-  pub right-bits : tag ≡ 1 → channels ≡ 1 → knownRate rate ≡ true → knownBits bits ≡ false → false ≡ right tag channels rate byteRate block bits
-  unfolding right
-  right-bits t h k b = rw (eq-eqb tag 1 t, eq-eqb channels 1 h, k, b)
-
-  module _ (t : tag ≡ 1) (h : channels ≡ 1) (k : knownRate rate ≡ true) (b : knownBits bits ≡ true) where
-    pub right-block : (block ≡ bits / 8 → ⊥) → false ≡ right tag channels rate byteRate block bits
-    unfolding right
-    right-block n = rw (eq-eqb tag 1 t, eq-eqb channels 1 h, k, b, ne-eqb block (bits / 8) n)
-
-    pub right-last : block ≡ bits / 8 → eqb byteRate (rate * block) ≡ right tag channels rate byteRate block bits
-    unfolding right
-    right-last e = rw (eq-eqb tag 1 t, eq-eqb channels 1 h, k, b, eq-eqb block (bits / 8) e)
-
-    -- the product of a known rate and a block size is small
-    pub product-fits : block ≡ bits / 8 → rate * block < 4294967296
-    product-fits e =
-        let small : bits ≤ 24 = bits-small bits b in
-        let three : block ≤ 3 = omega arith in
-        let l : rate * block ≤ 48000 * 3 = mul-le-mul (rate-small rate k) three in
-        omega arith
+-- the product of a known rate and a block size is small
+pub product-fits : (rate block bits : ℕ) → knownRate rate ≡ true → knownBits bits ≡ true → block ≡ bits / 8 → rate * block < 4294967296
+product-fits rate block bits k b e =
+    let small : bits ≤ 24 = bits-small bits b in
+    let three : block ≤ 3 = omega arith in
+    let l : rate * block ≤ 48000 * 3 = mul-le-mul (rate-small rate k) three in
+    omega arith
 
 -- right values that are not of 16 bits are of 24
 pub right-means-24 : (tag channels rate byteRate block bits : ℕ) (judged : Bool) → judged ≡ right tag channels rate byteRate block bits →
