@@ -13,21 +13,6 @@ use Rattle.wave.specs.Bytes.{number, little, field, same}
 
 -- ---- bytes to a number
 
-pub number-2 : (s : List ℕ) → length s ≡ 2 → number s ≡ getD s 0 0 + 256 * getD s 1 0
-unfolding number
-number-2 [] h = omega arith
-number-2 (a ∷ []) h = omega arith
-number-2 (a ∷ b ∷ []) h = omega arith
-number-2 (a ∷ b ∷ x ∷ s) h = absurd (omega arith)
-
-pub number-3 : (s : List ℕ) → length s ≡ 3 → number s ≡ getD s 0 0 + 256 * getD s 1 0 + 65536 * getD s 2 0
-unfolding number
-number-3 [] h = omega arith
-number-3 (a ∷ []) h = omega arith
-number-3 (a ∷ b ∷ []) h = omega arith
-number-3 (a ∷ b ∷ x ∷ []) h = omega arith
-number-3 (a ∷ b ∷ x ∷ y ∷ s) h = absurd (omega arith)
-
 number-take-2 : (t : List ℕ) → number (take 2 t) ≡ getD t 0 0 + 256 * getD t 1 0
 unfolding number
 number-take-2 [] = refl
@@ -91,6 +76,12 @@ pub same-at : (s name : List ℕ) (place : ℕ) → place + 4 ≤ length s → l
 same-at s name place h e =
     same-4 (drop place s) name (simp length-drop (omega arith)) e
     ∙ rw (first-of-drop s place, getD-drop place s 1 0, getD-drop place s 2 0, getD-drop place s 3 0)
+
+-- .. as a rule for search
+pub named-by : (s name : List ℕ) (place : ℕ) (r : Bool) → place + 4 ≤ length s → length name ≡ 4 →
+    r ≡ (eqb (getD s place 0) (getD name 0 0) && (eqb (getD s (place + 1) 0) (getD name 1 0) && (eqb (getD s (place + 2) 0) (getD name 2 0) && eqb (getD s (place + 3) 0) (getD name 3 0)))) →
+    r ≡ same (take 4 (drop place s)) name
+named-by s name place r h e d = d ∙ sym (same-at s name place h e)
 
 -- ---- a number to bytes
 
