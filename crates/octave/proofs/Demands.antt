@@ -1,4 +1,4 @@
--- Demand 3 over demand 2's output: each output of accepted calls from prepared memory. Assumes nothing.
+-- The third demand over the second's outputs: each output of accepted calls from prepared memory. Assumes nothing.
 use mathlib.Core.Path.{_≡_, sym, subst, _∙_}
 use mathlib.Core.Bool.{true}
 use mathlib.Core.List.{List, [], _∷_}
@@ -55,8 +55,8 @@ carried-allowed m (c ∷ cs) a n h k = by (decLt n (length (c .input))) (λ l. c
 
 -- ---- the 32-bit limit
 
--- 01, Line memory: "From prepared memory that never acts, which is to be shown": line M - j of accepted calls is within its reach, far within
--- 32 bits, and so is each new value of the line below it before the limit
+-- rule 5.11: line M - j of accepted calls is within its reach, far within 32 bits, and so is each new value of the line below it before the
+-- limit
 module _ (m : List ℤ) (cs : List Call) (all : AllAccepted m cs) (n : ℕ) where
   pub line-within : (j : ℕ) → natAbs (level published j (signalOf (joined cs)) n) ≤ reach 140240 j
   line-within j = published-reach (signalOf (joined cs)) n (λ k _. samples-small m cs all k) j
@@ -74,20 +74,20 @@ module _ (M : ℕ) (least : 2 ≤ M) (most : M ≤ 10) (cs : List Call) (all : A
   allowed : AllowedGains M (carried cs) n
   allowed m _ _ = carried-allowed (prepared M) cs all n inside m
 
-  -- 01, Exact output and allowance: "at most 2,048·P plus the sum over k = 1..M-1 of |gain(k+1) - gain(k)|·E(k)·100,000^(k-1)"
+  -- rule 11.5: |4,096·P·(output - exact output)| ≤ 2,048·P + slack
   pub written-near : natAbs (pos (4096 * commonScale M) *ℤ written M cs n -ℤ exact M cs n) ≤ 2048 * commonScale M + slack published M (carried cs) n
   written-near = rw is (distance published M (carried cs) (signalOf (joined cs)) n (omega arith))
 
-  -- demand 3: "never past 302 steps"
+  -- rule 11.6: never past 302 steps
   pub written-within-302 : natAbs (pos (4096 * commonScale M) *ℤ written M cs n -ℤ exact M cs n) ≤ farthest * (4096 * commonScale M)
   written-within-302 = rw is (never-past-302 M least most (carried cs) (signalOf (joined cs)) n allowed)
 
-  -- demand 3: "Equal gains: that gain times the input, late by the stated delay, rounded once, limited."
+  -- rule 11.7: equal gains
   pub written-equal : (G : ℤ) → ((m : ℕ) → 1 ≤ m → m ≤ M → carried cs n m ≡ G) →
       written M cs n ≡ limit leastSample mostSample (nearest 4096 (G *ℤ back (signalOf (joined cs)) n (delay published M)))
   written-equal G e = is ∙ equal-gains published M G (carried cs) (signalOf (joined cs)) n (omega arith) e
 
-  -- no crack: a loud sample never turns over
+  -- rule 11.8, no crack: a loud sample never turns over
   pub loud-above : pos (farthest * (4096 * commonScale M)) <ℤ exact M cs n → pos 0 <ℤ written M cs n
   loud-above h = rw is (above-stays-above M least most (carried cs) (signalOf (joined cs)) n allowed h)
 
