@@ -1,7 +1,7 @@
 -- 01, Exact output and allowance: a line is no further from the exact line than its allowance E. Assumes nothing.
 use mathlib.Core.Path.{_≡_, ap, _∙_}
 use Prim.Native.Nat.{ℕ, zero, suc, _+_, _-_, _*_, _/_, _^_, _≤_}
-use native.Mathlib.Nat.{le-refl, le-trans, add-le-add, mul-le-mul-left, pow-succ', mul-comm, mul-zero}
+use native.Mathlib.Nat.{le-refl, le-trans, add-le-add, mul-le-mul-left, pow-succ', mul-comm}
 use native.Mathlib.Omega.{arith}
 use lib.Pow.{pow-add}
 use lib.IntN.{ℤ, pos, natAbs, _+ℤ_, _-ℤ_, _*ℤ_}
@@ -80,11 +80,3 @@ module _ (p : Prototype) (x : Signal) where
       shared =
           eq-by (lit (a * b) ⊗ var (line p M x k n) ⊖ lit a ⊗ var (exactLevel p (M - k) x n))
           (lit a ⊗ (lit b ⊗ var (line p M x k n) ⊖ var (exactLevel p (M - k) x n))) (omega arith)
-
--- "So E(M-1) = 50,000, half a step."
-pub first-allowance : (p : Prototype) (M : ℕ) → 1 ≤ M → allowance p M (M - 1) ≡ 50000
-unfolding allowanceAt
-first-allowance p M some = rw (one-below, mul-zero (magnitudes p))
-  where
-    one-below : M - (M - 1) ≡ 1
-    one-below = omega arith

@@ -74,12 +74,6 @@ module _ (x : Signal) (n : ℕ) (samples : (k : ℕ) → k ≤ n → natAbs (x k
   pub published-reach : (j : ℕ) → natAbs (level published j x n) ≤ reach 140240 j
   published-reach j = level-reach published 140240 published-sized x j n samples
 
-  pub published-level-fits : (j : ℕ) → j ≤ 9 → SFits w32 (level published j x n)
-  published-level-fits = level-fits published 140240 published-sized x reaches-below n samples
-
-  pub published-limit-never-acts : (j : ℕ) → j ≤ 9 → limit least32 most32 (level published j x n) ≡ level published j x n
-  published-limit-never-acts = limit-never-acts published 140240 published-sized x reaches-below n samples
-
   pub published-low-pass-never-limited : (j : ℕ) → j < 9 →
       limit least32 most32 (lowPass published (2 ^ j) (level published j x) n) ≡ lowPass published (2 ^ j) (level published j x) n
   published-low-pass-never-limited = low-pass-never-limited published 140240 published-sized x reaches-below n samples

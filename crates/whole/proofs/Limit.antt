@@ -1,12 +1,12 @@
 -- The laws of `limit`. The ends are variables; the 24-bit and the 32-bit ends are instances. Assumes nothing.
 use mathlib.Core.Path.{_≡_, refl}
 use mathlib.Core.Bool.{Bool, true, false, cond}
-use Prim.Native.Nat.{ℕ, _+_, _*_, _≤_, _<_, _^_}
+use Prim.Native.Nat.{ℕ, _+_, _≤_, _<_, _^_}
 use native.Mathlib.Nat.{le-refl, mul-le-mul-left, mul-lt-mul-of-pos-left}
 use lib.Dec.{T}
 use native.Mathlib.Omega.{arith}
 use lib.IntN.{ℤ, pos, natAbs, _-ℤ_, _*ℤ_}
-use lib.Signed.{ltZ, _≤ℤ_, _<ℤ_, ≤ℤ-refl, leZ-yes}
+use lib.Signed.{ltZ, _≤ℤ_, _<ℤ_, ≤ℤ-refl}
 use mir.Syntax.{w32}
 use mir.Val.{SFits}
 use mir.Facts.{sfits-lit}
@@ -114,14 +114,6 @@ limit-scale k h lo hi z = rw (ltZ-scale k h z lo, ltZ-scale k h hi z) (by (ltZ z
     by false false = refl
 
 -- ---- the 24-bit and the 32-bit ends
-
-pub limit24-abs : (z : ℤ) → natAbs (limit least24 most24 z) ≤ 8388608
-limit24-abs z =
-    abs-by (var a) 8388608 (omega (arith, read-le a most24 (limit-most least24 most24 z (leZ-yes tt))))
-    (omega (arith, read-le least24 a (limit-least least24 most24 z (leZ-yes tt))))
-  where
-    a : ℤ
-    a = limit least24 most24 z
 
 pub limit24-fits : (z : ℤ) → SFits w32 (limit least24 most24 z)
 limit24-fits z =

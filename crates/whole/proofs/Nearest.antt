@@ -6,7 +6,6 @@ use native.Mathlib.Omega.{arith}
 use lib.IntN.{ℤ, pos, negsuc, negℤ, natAbs, _-ℤ_, _*ℤ_, negℤ-negℤ}
 use lib.Signed.{_≤ℤ_}
 use Rattle.whole.specs.Nearest.{nearest}
-use Rattle.whole.specs.Limit.{least24, most24}
 use Rattle.whole.proofs.Signed.{up, down, var, lit, neg, _⊖_, _⊗_, eq-by, le-by, abs-by, read-le}
 use Rattle.whole.proofs.Magnitude.{abs-neg}
 
@@ -99,11 +98,5 @@ nearest-within d h a (negsuc k) l = rw (abs-neg (pos ((suc k + d / 2) / d))) (q-
 pub nearest-tie : (h k : ℕ) → 0 < h → nearest (2 * h) (pos (2 * h * k + h)) ≡ pos (k + 1)
 nearest-tie h k l = pos-nearest (2 * h) (2 * h * k + h) (k + 1) (omega arith) (omega arith)
 
-pub nearest-tie-below : (h k : ℕ) → 0 < h → nearest (2 * h) (negℤ (pos (2 * h * k + h))) ≡ negℤ (pos (k + 1))
-nearest-tie-below h k l = nearest-neg (2 * h) (pos (2 * h * k + h)) ∙ ap negℤ (nearest-tie h k l)
-
 pub nearest-zero : (d : ℕ) → nearest d (pos 0) ≡ pos 0
 nearest-zero d = ap pos (q-zero d)
-
-pub at-ends : (nearest 100000 least24 ≡ negsuc 83) × (nearest 100000 most24 ≡ pos 84) × (nearest 4096 least24 ≡ negsuc 2047) × (nearest 4096 most24 ≡ pos 2048)
-at-ends = (refl, refl, refl, refl)
