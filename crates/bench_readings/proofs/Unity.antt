@@ -9,7 +9,7 @@ use Rattle.tree.specs.Signal.{signalOf, gainOf}
 use Rattle.tree.proofs.EqualGains.{equal-gains}
 use Rattle.tree.proofs.Gaps.{unmet}
 use Rattle.whole.specs.Nearest.{nearest}
-use Rattle.whole.specs.Limit.{limit, least24, most24}
+use Rattle.whole.specs.Limit.{limit, leastSample, mostSample}
 use Rattle.bench_readings.specs.Reading.{read, output-of, number}
 
 both-unity : (m : ℕ) → 1 ≤ m → m ≤ 2 → gainOf (pos 4096 ∷ pos 4096 ∷ []) m ≡ pos 4096
@@ -23,4 +23,4 @@ unfolding read
 zero-elsewhere n h =
     ap number
     (equal-gains published 2 (pos 4096) (λ _. gainOf (pos 4096 ∷ pos 4096 ∷ [])) (signalOf (pos 100000 ∷ [])) n (omega arith) both-unity ∙
-    ap (λ (z : ℤ). limit least24 most24 (nearest 4096 (_*ℤ_ (pos 4096) z))) (unmet published (pos 100000) n 9 h))
+    ap (λ (z : ℤ). limit leastSample mostSample (nearest 4096 (_*ℤ_ (pos 4096) z))) (unmet published (pos 100000) n 9 h))

@@ -8,7 +8,7 @@ use native.Mathlib.Omega.{arith}
 use lib.IntN.{ℤ, pos, natAbs, _-ℤ_, _*ℤ_}
 use lib.Signed.{_≤ℤ_, leZ-yes}
 use Rattle.whole.specs.Nearest.{nearest}
-use Rattle.whole.specs.Limit.{least24, most24}
+use Rattle.whole.specs.Limit.{leastSample, mostSample}
 use Rattle.whole.specs.Sum.{sumℕ}
 use Rattle.whole.proofs.Signed.{var, lit, _⊖_, _⊗_, eq-by}
 use Rattle.whole.proofs.Ring.{minus-self}
@@ -56,8 +56,8 @@ module _ (p : Prototype) (M : ℕ) (g : ℕ → ℕ → ℤ) (x : Signal) (n : �
       natAbs (pos (4096 * commonScale M) *ℤ output p M g x n -ℤ exactOutput p M g x n) ≤ 2048 * commonScale M + slack p M g n
   unfolding output exactOutput
   distance =
-      rw (← (limit-scale (4096 * P) some-P least24 most24 y))
-      (le-trans (limit-near (pos (4096 * P) *ℤ least24) (pos (4096 * P) *ℤ most24) ends (exactSum p M g x n) (pos (4096 * P) *ℤ y))
+      rw (← (limit-scale (4096 * P) some-P leastSample mostSample y))
+      (le-trans (limit-near (pos (4096 * P) *ℤ leastSample) (pos (4096 * P) *ℤ mostSample) ends (exactSum p M g x n) (pos (4096 * P) *ℤ y))
       (le-trans (abs-via (pos (4096 * P) *ℤ y) (pos P *ℤ z) (exactSum p M g x n)) (add-le-add once sum-near)))
     where
       P : ℕ
@@ -72,8 +72,8 @@ module _ (p : Prototype) (M : ℕ) (g : ℕ → ℕ → ℤ) (x : Signal) (n : �
       some-P : 0 < 4096 * P
       some-P = omega (arith, one-le-pow (M - 1) scale (omega arith))
 
-      ends : (pos (4096 * P) *ℤ least24) ≤ℤ (pos (4096 * P) *ℤ most24)
-      ends = *ℤ-monoˡ-≤ℤ (4096 * P) {a = least24} {b = most24} (leZ-yes tt)
+      ends : (pos (4096 * P) *ℤ leastSample) ≤ℤ (pos (4096 * P) *ℤ mostSample)
+      ends = *ℤ-monoˡ-≤ℤ (4096 * P) {a = leastSample} {b = mostSample} (leZ-yes tt)
 
       -- the one rounding, by 4,096
       once : natAbs (pos (4096 * P) *ℤ y -ℤ pos P *ℤ z) ≤ 2048 * P

@@ -5,7 +5,7 @@ use native.Mathlib.Nat.{sub-self}
 use native.Mathlib.Omega.{arith}
 use lib.IntN.{ℤ, _+ℤ_, _-ℤ_, _*ℤ_, +ℤ-idr, zero-*ℤ}
 use Rattle.whole.specs.Nearest.{nearest}
-use Rattle.whole.specs.Limit.{limit, least24, most24}
+use Rattle.whole.specs.Limit.{limit, leastSample, mostSample}
 use Rattle.whole.proofs.Ring.{minus-self}
 use Rattle.whole.proofs.Sums.{sum-none}
 use Rattle.tree.specs.Prototype.{Prototype}
@@ -31,6 +31,6 @@ module _ (p : Prototype) (M : ℕ) (G : ℤ) (g : ℕ → ℕ → ℤ) (x : Sign
       zero-*ℤ (aligned p M (line p M x) (suc i) n))) ∙
       +ℤ-idr (G *ℤ back x n (delay p M))
 
-  pub equal-gains : output p M g x n ≡ limit least24 most24 (nearest 4096 (G *ℤ back x n (delay p M)))
+  pub equal-gains : output p M g x n ≡ limit leastSample mostSample (nearest 4096 (G *ℤ back x n (delay p M)))
   unfolding output
-  equal-gains = ap (λ (z : ℤ). limit least24 most24 (nearest 4096 z)) equal-gain-sum
+  equal-gains = ap (λ (z : ℤ). limit leastSample mostSample (nearest 4096 z)) equal-gain-sum

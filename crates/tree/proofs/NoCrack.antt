@@ -6,7 +6,7 @@ use native.Mathlib.Omega.{arith}
 use lib.IntN.{ℤ, pos, negℤ, *ℤ-zero}
 use lib.Signed.{_≤ℤ_, _<ℤ_, leZ-yes}
 use Rattle.whole.specs.Nearest.{nearest}
-use Rattle.whole.specs.Limit.{limit, least24, most24}
+use Rattle.whole.specs.Limit.{limit, leastSample, mostSample}
 use Rattle.whole.proofs.Order.{*ℤ-monoˡ-≤ℤ}
 use Rattle.whole.proofs.Magnitude.{above-when-near, below-when-near}
 use Rattle.whole.proofs.Nearest.{nearest-mono}
@@ -35,11 +35,11 @@ module _ (M : ℕ) (least : 2 ≤ M) (most : M ≤ 10) (g : ℕ → ℕ → ℤ)
 -- ---- equal gains, any prototype
 
 -- rounding and limiting turn no sign
-rounded-up : {z : ℤ} → pos 0 ≤ℤ z → pos 0 ≤ℤ limit least24 most24 (nearest 4096 z)
-rounded-up {z} h = limit-mono least24 most24 (leZ-yes tt) {y = pos 0} {z = nearest 4096 z} (nearest-mono 4096 (omega arith) h)
+rounded-up : {z : ℤ} → pos 0 ≤ℤ z → pos 0 ≤ℤ limit leastSample mostSample (nearest 4096 z)
+rounded-up {z} h = limit-mono leastSample mostSample (leZ-yes tt) {y = pos 0} {z = nearest 4096 z} (nearest-mono 4096 (omega arith) h)
 
-rounded-down : {z : ℤ} → z ≤ℤ pos 0 → limit least24 most24 (nearest 4096 z) ≤ℤ pos 0
-rounded-down {z} h = limit-mono least24 most24 (leZ-yes tt) {y = nearest 4096 z} {z = pos 0} (nearest-mono 4096 (omega arith) h)
+rounded-down : {z : ℤ} → z ≤ℤ pos 0 → limit leastSample mostSample (nearest 4096 z) ≤ℤ pos 0
+rounded-down {z} h = limit-mono leastSample mostSample (leZ-yes tt) {y = nearest 4096 z} {z = pos 0} (nearest-mono 4096 (omega arith) h)
 
 module _ (p : Prototype) (M G : ℕ) (g : ℕ → ℕ → ℤ) (x : Signal) (n : ℕ) (some : 1 ≤ M) (equal : (m : ℕ) → 1 ≤ m → m ≤ M → g n m ≡ pos G) where
   pub not-below : pos 0 ≤ℤ back x n (delay p M) → pos 0 ≤ℤ output p M g x n

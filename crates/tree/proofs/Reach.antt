@@ -10,7 +10,7 @@ use lib.Dec.{T, ltb, ltb→lt}
 use lib.IntN.{natAbs}
 use mir.Syntax.{w32}
 use mir.Val.{SFits}
-use Rattle.whole.specs.Limit.{limit, least32, most32}
+use Rattle.whole.specs.Limit.{limit, leastPlace, mostPlace}
 use Rattle.whole.proofs.Signed.{about}
 use Rattle.whole.proofs.Nearest.{nearest-within}
 use Rattle.whole.proofs.Limit.{limit32-id}
@@ -47,11 +47,11 @@ module _ (p : Prototype) (A : ℕ) (sized : magnitudes p ≤ A) (x : Signal) whe
     pub level-fits : (j : ℕ) → j ≤ 9 → SFits w32 (level p j x n)
     level-fits j h = record { sfits = omega (arith, level-small j h, about (level p j x n)) }
 
-    pub limit-never-acts : (j : ℕ) → j ≤ 9 → limit least32 most32 (level p j x n) ≡ level p j x n
+    pub limit-never-acts : (j : ℕ) → j ≤ 9 → limit leastPlace mostPlace (level p j x n) ≡ level p j x n
     limit-never-acts j h = limit32-id (level-fits j h)
 
     -- the same of a new line value, as the low-pass gives it
-    pub low-pass-never-limited : (j : ℕ) → j < 9 → limit least32 most32 (lowPass p (2 ^ j) (level p j x) n) ≡ lowPass p (2 ^ j) (level p j x) n
+    pub low-pass-never-limited : (j : ℕ) → j < 9 → limit leastPlace mostPlace (lowPass p (2 ^ j) (level p j x) n) ≡ lowPass p (2 ^ j) (level p j x) n
     unfolding level
     low-pass-never-limited j h = limit-never-acts (suc j) h
 
@@ -75,5 +75,5 @@ module _ (x : Signal) (n : ℕ) (samples : (k : ℕ) → k ≤ n → natAbs (x k
   published-reach j = level-reach published 140240 published-sized x j n samples
 
   pub published-low-pass-never-limited : (j : ℕ) → j < 9 →
-      limit least32 most32 (lowPass published (2 ^ j) (level published j x) n) ≡ lowPass published (2 ^ j) (level published j x) n
+      limit leastPlace mostPlace (lowPass published (2 ^ j) (level published j x) n) ≡ lowPass published (2 ^ j) (level published j x) n
   published-low-pass-never-limited = low-pass-never-limited published 140240 published-sized x reaches-below n samples

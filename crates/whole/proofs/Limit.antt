@@ -10,7 +10,8 @@ use lib.Signed.{ltZ, _≤ℤ_, _<ℤ_, ≤ℤ-refl}
 use mir.Syntax.{w32}
 use mir.Val.{SFits}
 use mir.Facts.{sfits-lit}
-use Rattle.whole.specs.Limit.{limit, least24, most24, least32, most32}
+use Rattle.answers.specs.Unit.{leastSample, mostSample, leastPlace, mostPlace}
+use Rattle.whole.specs.Limit.{limit}
 use Rattle.whole.proofs.Signed.{up, down, var, lit, _⊖_, _⊗_, Near, eq-by, le-by, lt-by, abs-by, abs-of, mag-by, mag-of, le-of, lt-of, read-le, ltZ-yes, ltZ-no, signed}
 use Rattle.whole.proofs.Magnitude.{abs-sym}
 
@@ -115,18 +116,18 @@ limit-scale k h lo hi z = rw (ltZ-scale k h z lo, ltZ-scale k h hi z) (by (ltZ z
 
 -- ---- the 24-bit and the 32-bit ends
 
-pub limit24-fits : (z : ℤ) → SFits w32 (limit least24 most24 z)
+pub limit24-fits : (z : ℤ) → SFits w32 (limit leastSample mostSample z)
 limit24-fits z =
-    limit-cases least24 most24 z (SFits w32) (λ _. sfits-lit tt) (λ _. sfits-lit tt)
-    (λ l h. record { sfits = mag-by (var z) (2 ^ 31) (omega (arith, read-le z most24 h)) (omega (arith, read-le least24 z l)) })
+    limit-cases leastSample mostSample z (SFits w32) (λ _. sfits-lit tt) (λ _. sfits-lit tt)
+    (λ l h. record { sfits = mag-by (var z) (2 ^ 31) (omega (arith, read-le z mostSample h)) (omega (arith, read-le leastSample z l)) })
 
-pub limit32-fits : (z : ℤ) → SFits w32 (limit least32 most32 z)
+pub limit32-fits : (z : ℤ) → SFits w32 (limit leastPlace mostPlace z)
 limit32-fits z =
-    limit-cases least32 most32 z (SFits w32) (λ _. sfits-lit tt) (λ _. sfits-lit tt)
-    (λ l h. record { sfits = mag-by (var z) (2 ^ 31) (omega (arith, read-le z most32 h)) (omega (arith, read-le least32 z l)) })
+    limit-cases leastPlace mostPlace z (SFits w32) (λ _. sfits-lit tt) (λ _. sfits-lit tt)
+    (λ l h. record { sfits = mag-by (var z) (2 ^ 31) (omega (arith, read-le z mostPlace h)) (omega (arith, read-le leastPlace z l)) })
 
 -- what fits is not moved
-pub limit32-id : {z : ℤ} → SFits w32 z → limit least32 most32 z ≡ z
+pub limit32-id : {z : ℤ} → SFits w32 z → limit leastPlace mostPlace z ≡ z
 limit32-id {z} f =
-    limit-id least32 most32 z (le-by (var least32) (var z) (omega (arith, mag-of (var z) (2 ^ 31) (f .sfits))))
-    (le-by (var z) (var most32) (omega (arith, mag-of (var z) (2 ^ 31) (f .sfits))))
+    limit-id leastPlace mostPlace z (le-by (var leastPlace) (var z) (omega (arith, mag-of (var z) (2 ^ 31) (f .sfits))))
+    (le-by (var z) (var mostPlace) (omega (arith, mag-of (var z) (2 ^ 31) (f .sfits))))
