@@ -30,7 +30,7 @@ abs-*ℤ (negsuc a) (negsuc b) = refl
 pub abs-sym : (a b : ℤ) → natAbs (a -ℤ b) ≡ natAbs (b -ℤ a)
 abs-sym a b = ap natAbs (eq-by (var a ⊖ var b) (neg (var b ⊖ var a)) (omega arith)) ∙ abs-neg (b -ℤ a)
 
--- by way of b
+-- |a - c| ≤ |a - b| + |b - c|
 pub abs-via : (a b c : ℤ) → natAbs (a -ℤ c) ≤ natAbs (a -ℤ b) + natAbs (b -ℤ c)
 abs-via a b c =
     abs-by (var a ⊖ var c) (natAbs (a -ℤ b) + natAbs (b -ℤ c))
@@ -41,7 +41,9 @@ abs-via a b c =
 pub abs-between : (k : ℕ) {a b : ℤ} → pos 0 ≤ℤ a → a ≤ℤ pos k → pos 0 ≤ℤ b → b ≤ℤ pos k → natAbs (a -ℤ b) ≤ k
 abs-between k {a} {b} l h l' h' = abs-by (var a ⊖ var b) k (omega signed) (omega signed)
 
--- ---- a multiple of y within F of z: where z is beyond F, y has its sign
+-- ---- signs
+
+-- where k·y is within F of z, and z is above F, y is above 0; where z is below -F, y is below 0
 
 pub above-when-near : (k F : ℕ) (y z : ℤ) → natAbs (pos k *ℤ y -ℤ z) ≤ F → pos F <ℤ z → pos 0 <ℤ y
 above-when-near k F y z near far = ⊎-elim (λ h. h) (λ h. absurd (clash h)) (≤ℤ-total (pos 0) y)

@@ -1,4 +1,4 @@
--- The order of ℤ: the kit has ≤ℤ-refl, <ℤ-≤ℤ-trans, <ℤ-irrefl and clashℤ. Assumes nothing.
+-- The order of ℤ: what the kit's `lib.Signed` lacks. Assumes nothing.
 use mathlib.Core.Path.{_≡_, refl}
 use mathlib.Core.Logic.{_⊎_, inl, inr}
 use mathlib.Core.Bool.{Bool, true, false}
@@ -9,7 +9,7 @@ use lib.IntN.{ℤ, pos, _+ℤ_, _*ℤ_}
 use lib.Signed.{ltZ, _≤ℤ_, _<ℤ_}
 use Rattle.whole.proofs.Signed.{var, lit, _⊕_, _⊗_, le-by, lt-by, read-le, signed, ltZ-yes, ltZ-no}
 
--- ---- order relations
+-- ---- two numbers
 
 pub ≤ℤ-total : (a b : ℤ) → (a <ℤ b) ⊎ (b ≤ℤ a)
 ≤ℤ-total a b = by (ltZ a b) refl
@@ -18,7 +18,7 @@ pub ≤ℤ-total : (a b : ℤ) → (a <ℤ b) ⊎ (b ≤ℤ a)
     by true e = inl (lt-by (var a) (var b) (ltZ-yes a b e))
     by false e = inr (le-by (var b) (var a) (ltZ-no a b e))
 
--- ---- sums, negation, products
+-- ---- sums and products
 
 pub +ℤ-mono-≤ℤ : {a b c d : ℤ} → a ≤ℤ b → c ≤ℤ d → (a +ℤ c) ≤ℤ (b +ℤ d)
 +ℤ-mono-≤ℤ {a} {b} {c} {d} h k = le-by (var a ⊕ var c) (var b ⊕ var d) (omega signed)

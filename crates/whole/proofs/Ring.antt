@@ -1,5 +1,4 @@
--- ℤ is a commutative ring: what the kit's `lib.IntN` lacks. (It has +ℤ-comm, +ℤ-assoc, +ℤ-idl, +ℤ-idr, +ℤ-invl, +ℤ-invr,
--- negℤ-+ℤ, negℤ-negℤ, *ℤ-comm, *ℤ-one, *ℤ-zero, zero-*ℤ.) Assumes nothing.
+-- Products and differences of ℤ: what the kit's `lib.IntN` lacks. Assumes nothing.
 use mathlib.Core.Path.{_≡_}
 use native.Mathlib.Omega.{arith}
 use lib.IntN.{ℤ, pos, _+ℤ_, _-ℤ_, _*ℤ_}
@@ -16,7 +15,7 @@ pub *ℤ-distribˡ--ℤ : (a b c : ℤ) → a *ℤ (b -ℤ c) ≡ a *ℤ b -ℤ 
 pub *ℤ-left-comm : (a b c : ℤ) → a *ℤ (b *ℤ c) ≡ b *ℤ (a *ℤ c)
 *ℤ-left-comm a b c = eq-by (var a ⊗ (var b ⊗ var c)) (var b ⊗ (var a ⊗ var c)) (omega arith)
 
--- ---- negation
+-- ---- differences
 
 pub minus-self : (a : ℤ) → a -ℤ a ≡ pos 0
 minus-self a = eq-by (var a ⊖ var a) (lit 0) (omega arith)

@@ -1,11 +1,13 @@
 // Limiting to the two ranges: a sample's 24 bits, a lent place's 32.
-use answers::unit::{LEAST_SAMPLE, MOST_SAMPLE};
+use answers::unit::LEAST_SAMPLE;
+use answers::unit::MOST_SAMPLE;
 ghost use mathlib.Core.Path.{_≡_};
 ghost use Rattle.answers.specs.Unit.{leastSample, mostSample, leastPlace, mostPlace};
 ghost use Rattle.whole.specs.Limit.{limit};
 
 // The ends at the width of a sum.
 const LEAST: i64 = LEAST_SAMPLE as i64;
+
 const MOST: i64 = MOST_SAMPLE as i64;
 
 pub fn limit_24(z: i64) -> i32
