@@ -16,9 +16,9 @@ use Rattle.whole.proofs.Signed.{about}
 use Rattle.tree.specs.Prototype.{published}
 use Rattle.tree.specs.Signal.{Signal, signalOf, gainOf}
 use Rattle.tree.specs.Tree.{output}
-use Rattle.tree.specs.Edges.{largestSample}
+use Rattle.tree.specs.Gains.{largestSample}
 use Rattle.tree.proofs.Recursive.{recursive-form}
-use Rattle.tree.proofs.Reach.{published-low-pass-never-limited}
+use Rattle.tree.proofs.NeverLimited.{published-low-pass-never-limited}
 use Rattle.octave.specs.declared.memory.Kept.{Kept}
 use Rattle.octave.specs.declared.memory.Kept.the-variants.{Bands, CountWrong, LengthWrong, PositionOutside}
 use Rattle.octave.specs.Range.{within, allWithin}

@@ -13,7 +13,7 @@ use Rattle.tree.specs.Prototype.{published}
 use Rattle.tree.specs.Signal.{Signal, back, signalOf, gainOf}
 use Rattle.tree.specs.Tree.{weighted, band, holdBack, gainSum, delay}
 use Rattle.tree.specs.Exact.{commonScale, exactLevel, exactOutput, farthest}
-use Rattle.tree.specs.Edges.{AllowedGains}
+use Rattle.tree.specs.Gains.{AllowedGains}
 use Rattle.octave.specs.declared.memory.Kept.{Kept}
 use Rattle.octave.specs.declared.memory.Kept.the-variants.{Bands, CountWrong, LengthWrong, PositionOutside}
 use Rattle.octave.specs.Range.{allWithin}
