@@ -17,11 +17,11 @@ use Rattle.tree.specs.Prototype.{published}
 use Rattle.tree.specs.Signal.{back, signalOf, gainOf}
 use Rattle.tree.specs.Tree.{lowPass, level, delay, output}
 use Rattle.tree.specs.Exact.{commonScale, slack, farthest}
-use Rattle.tree.specs.Edges.{IsGain, AllowedGains}
+use Rattle.tree.specs.Gains.{IsGain, AllowedGains}
 use Rattle.tree.proofs.Distance.{distance}
 use Rattle.tree.proofs.Farthest.{never-past-302}
 use Rattle.tree.proofs.EqualGains.{equal-gains}
-use Rattle.tree.proofs.Reach.{reach, published-reach, published-low-pass-never-limited}
+use Rattle.tree.proofs.NeverLimited.{reach, published-reach, published-low-pass-never-limited}
 use Rattle.tree.proofs.NoCrack.{above-stays-above, below-stays-below}
 use Rattle.answers.specs.Range.{allWithin}
 use Rattle.octave.specs.Memory.{prepared}

@@ -13,7 +13,7 @@ use Rattle.tree.specs.Prototype.{published}
 use Rattle.tree.specs.Signal.{Signal, back, signalOf, gainOf}
 use Rattle.tree.specs.Tree.{weighted, band, holdBack, gainSum, delay}
 use Rattle.tree.specs.Exact.{commonScale, exactLevel, exactOutput, farthest}
-use Rattle.tree.specs.Edges.{AllowedGains}
+use Rattle.tree.specs.Gains.{AllowedGains}
 use Rattle.answers.specs.Answer.{accepted, numberIn}
 use Rattle.answers.specs.Checks.{allHold, Outcome, decide, Done}
 use Rattle.answers.specs.Range.{firstOutside}
