@@ -3,34 +3,22 @@
 use mathlib.Core.Path.{sym, ap, _∙_}
 use Rattle.wave.specs.Values.{bitsOf}
 use Rattle.wave.specs.Walk.{fmtChunk}
-use Rattle.wave.specs.Code.{seenOf, stepOf}
+use Rattle.wave.specs.Private.{seenOf, stepOf}
 use Rattle.wave.proofs.Chunks.{fmt-length, fmt-cut, fmt-first, fmt-second}
 use borrow.Author.Needs.{needs}
 use Rattle.wave.proofs.chunk.format_chunk.Statement.{statement}
 use Rattle.wave.proofs.chunk.format_chunk.Tie as tie
 
-four-requires : tie.Need-four-requires
-four-requires c κs = search needs
-
 returns : tie.Need-returns
 returns c =
     let a = c .before .before .before .args in
-    fmt-length (a .rest .now) (a .at) (seenOf (a .heard)) (λ e. c .if1 .taken (c .before .four .ensures ∙ e))
+    fmt-length (a .rest .now) (a .at) (seenOf (a .seen)) (λ e. c .if1 .taken (c .before .four .ensures ∙ e))
 
 returns-2 : tie.Need-returns-2
 returns-2 c =
     let else1 = c .before in
     let a = else1 .before .before .before .args in
-    fmt-cut (a .rest .now) (a .at) (seenOf (a .heard)) (sym (else1 .before .four .ensures) ∙ else1 .if1 .left) (c .if2 .taken)
-
-enum-told : tie.Need-enum-told
-enum-told c = search needs
-
-format-values-requires : tie.Need-format-values-requires
-format-values-requires c κs = search needs
-
-enum-told-2 : tie.Need-enum-told-2
-enum-told-2 c = search needs
+    fmt-cut (a .rest .now) (a .at) (seenOf (a .seen)) (sym (else1 .before .four .ensures) ∙ else1 .if1 .left) (c .if2 .taken)
 
 returns-3 : tie.Need-returns-3
 returns-3 c =
@@ -55,11 +43,11 @@ pub format-chunk-spec : {M : Type 1} → statement M
 format-chunk-spec =
     tie.close
     (tie.spec
-    four-requires
+    (λ c κs. search needs)
     returns
     returns-2
-    enum-told
-    format-values-requires
-    enum-told-2
+    (λ c. search needs)
+    (λ c κs. search needs)
+    (λ c. search needs)
     returns-3
     returns-4)

@@ -12,12 +12,6 @@ returns c = let a = c .before .args in right-tag (a .tag) (a .channels) (a .rate
 returns-2 : tie.Need-returns-2
 returns-2 c = let a = c .before .before .args in right-channels (a .tag) (a .channels) (a .rate) (a .byterate) (a .block) (a .bits) (c .before .if1 .left) (c .if2 .taken)
 
-known-rate-requires : tie.Need-known-rate-requires
-known-rate-requires c κs = search needs
-
-known-bits-requires : tie.Need-known-bits-requires
-known-bits-requires c κs = search needs
-
 returns-3 : tie.Need-returns-3
 returns-3 c =
     let known-bits = c .before .before in
@@ -72,8 +66,8 @@ right-spec =
     (tie.spec
     returns
     returns-2
-    known-rate-requires
-    known-bits-requires
+    (λ c κs. search needs)
+    (λ c κs. search needs)
     returns-3
     mul-product
     returns-4

@@ -10,15 +10,6 @@ use Rattle.wave.proofs.reader.judge.Tie as tie
 returns : tie.Need-returns
 returns c = judge-short (c .before .before .args .front .now) (c .if1 .taken)
 
-named-requires : tie.Need-named-requires
-named-requires c κs = search needs
-
-named-requires-2 : tie.Need-named-requires-2
-named-requires-2 c κs = search needs
-
-walk-requires : tie.Need-walk-requires
-walk-requires c κs = search needs
-
 returns-2 : tie.Need-returns-2
 returns-2 c =
     let then3 = c .before in
@@ -42,4 +33,11 @@ returns-4 c =
 pub judge-spec : {M : Type 1} → statement M
 judge-spec =
     tie.close
-    (tie.spec returns named-requires named-requires-2 walk-requires returns-2 returns-3 returns-4)
+    (tie.spec
+    returns
+    (λ c κs. search needs)
+    (λ c κs. search needs)
+    (λ c κs. search needs)
+    returns-2
+    returns-3
+    returns-4)
