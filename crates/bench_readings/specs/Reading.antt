@@ -34,7 +34,7 @@ read (line-of M k samples) n = number (line published M (signalOf samples) k n)
 read (band-of M m samples) n = number (band published M (line published M (signalOf samples)) m n)
 read (decibels-of bits) n = shown (answerTo (Decibels (ofBits binary32 bits)))
 
--- a row of the bench's table: "313 at 0"
+-- rule 14.1: a row of the table, as 313 at 0
 pub record Row : Type 0 where
   pub reading : Reading
   pub at : ℕ
