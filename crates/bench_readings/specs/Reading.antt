@@ -27,14 +27,14 @@ abbrev pub shown : Answer → Shown
 shown (accepted g) = number g
 shown (refused n) = refusal n
 
--- what is read at n, by the tree's own definitions, and a gain, at any n, by the gain command's
+-- what the definitions give at n; a gain is the same at every n
 unfoldable pub read : Reading → ℕ → Shown
 read (output-of M gains samples) n = number (output published M (λ _. gainOf gains) (signalOf samples) n)
 read (line-of M k samples) n = number (line published M (signalOf samples) k n)
 read (band-of M m samples) n = number (band published M (line published M (signalOf samples)) m n)
 read (decibels-of bits) n = shown (answerTo (Decibels (ofBits binary32 bits)))
 
--- a row of the bench's table: "313 at 0"
+-- rule 14.1: a row of the table, as 313 at 0
 pub record Row : Type 0 where
   pub reading : Reading
   pub at : ℕ

@@ -10,7 +10,7 @@ use lib.ListN.{length}
 use lib.IntN.{ℤ, pos, negsuc, natAbs, negℤ, _-ℤ_, _*ℤ_}
 use lib.Ieee.{Float, nan, inf, fin, up, down}
 use lib.Signed.{ltZ}
-use Rattle.whole.specs.Limit.{least24, most24}
+use Rattle.answers.specs.Unit.{leastSample, mostSample}
 use Rattle.whole.proofs.Signed as parts
 use Rattle.wave.proofs.Cases.{cond-case}
 use Rattle.octave.specs.Answer as octave
@@ -77,7 +77,7 @@ judged-fine bands memory gains input output =
     (λ _. cond-case P _ _ (not (allWithin (pos 0) (pos 16384) gains)) (λ _. refusal 5 (omega arith))
     (λ _. cond-case P _ _ (not (eqb (length output) (length input))) (λ _. refusal 6 (omega arith))
     (λ _. cond-case P _ _ (not (leb (length input) 4096)) (λ _. refusal 7 (omega arith))
-    (λ t. cond-case P _ _ (not (allWithin least24 most24 input)) (λ _. refusal 8 (omega arith))
+    (λ t. cond-case P _ _ (not (allWithin leastSample mostSample input)) (λ _. refusal 8 (omega arith))
     (λ _. count (length input) (omega (arith, leb-true (length input) 4096 (not-false (leb (length input) 4096) t))))))))
   where
     P : Blocking → Type 0

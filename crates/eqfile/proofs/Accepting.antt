@@ -8,7 +8,7 @@ use borrow.Author.Tests.{eq-eqb, le-leb, le-ltb}
 use lib.ListN.{length, take, drop, length-drop}
 use lib.Seq.{take-all}
 use lib.IntN.{ℤ, pos}
-use Rattle.whole.specs.Limit.{least24, most24}
+use Rattle.answers.specs.Unit.{leastSample, mostSample}
 use Rattle.tree.specs.Prototype.{published}
 use Rattle.tree.specs.Signal.{gainOf}
 use Rattle.octave.specs.declared.memory.Kept.the-variants.{Bands}
@@ -70,7 +70,7 @@ pub record Allowed (gains : List ℤ) : Type 0 where
   pub each : allWithin (pos 0) (pos 16384) gains ≡ true
 
 pub block-done : (m gains input before : List ℤ) → Ready m → Allowed gains → length before ≡ length input → length input ≤ 4096 →
-    allWithin least24 most24 input ≡ true → Done input (blockOf m gains input before)
+    allWithin leastSample mostSample input ≡ true → Done input (blockOf m gains input before)
 block-done m gains input before s g alike short range =
     let size = lineLength 8 in
     let r = run published 8 size (gainOf gains) (s .lines) (s .at) input in

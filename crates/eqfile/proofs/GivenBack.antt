@@ -9,7 +9,7 @@ use native.Mathlib.Omega.{arith}
 use lib.ListN.{length, getD, take, drop, replicate, length-drop, take-append-drop}
 use lib.Seq.{getD-drop, ext-getD, length-take-le}
 use lib.IntN.{ℤ, pos}
-use Rattle.whole.specs.Limit.{least24, most24}
+use Rattle.answers.specs.Unit.{leastSample, mostSample}
 use Rattle.whole.proofs.Signed.{var, le-by}
 use Rattle.tree.specs.Prototype.{published}
 use Rattle.tree.specs.Signal.{Signal, signalOf, gainOf}
@@ -38,7 +38,7 @@ use Rattle.eqfile.proofs.Program.{program-writes, program-length}
 -- ---- samples
 
 -- outputs 1,143 and on of samples in range are the samples
-outputs-back : (xs : List ℤ) → allWithin least24 most24 xs ≡ true →
+outputs-back : (xs : List ℤ) → allWithin leastSample mostSample xs ≡ true →
     from late (length xs) (output published 8 (λ _. gainOf (replicate 8 (pos 4096))) (signalOf xs)) ≡ xs
 outputs-back xs e =
     let f = output published 8 (λ _. gainOf (replicate 8 (pos 4096))) (signalOf xs) in
@@ -47,9 +47,9 @@ outputs-back xs e =
     (λ n h.
     let i : n < length xs = omega arith in
     let z = getD xs n (pos 0) in
-    let r = within-parts least24 most24 z (all-at least24 most24 xs e n i) in
+    let r = within-parts leastSample mostSample z (all-at leastSample mostSample xs e n i) in
     from-at late (length xs) f n i ∙ ap f (add-comm late n) ∙
-    unity-output (replicate 8 (pos 4096)) (signalOf xs) all-unity n (le-by (var least24) (var z) (r .0)) (le-by (var z) (var most24) (r .1)))
+    unity-output (replicate 8 (pos 4096)) (signalOf xs) all-unity n (le-by (var leastSample) (var z) (r .0)) (le-by (var z) (var mostSample) (r .1)))
 
 -- ---- bytes
 

@@ -9,7 +9,7 @@ use lib.ListN.{length, take, drop, replicate}
 use lib.Seq.{getD-drop}
 use lib.IntN.{ℤ, pos}
 use lib.Signed.{leZ}
-use Rattle.whole.specs.Limit.{least24, most24}
+use Rattle.answers.specs.Unit.{leastSample, mostSample}
 use Rattle.whole.specs.Nearest.{nearest}
 use Rattle.whole.proofs.Limit.{limit-cases}
 use Rattle.tree.specs.Prototype.{published}
@@ -30,15 +30,15 @@ use Rattle.eqfile.specs.Data.{samplesFrom}
 
 -- ---- samples of bytes are in range
 
-in-range-within : (z : ℤ) → inRange z ≡ true → within least24 most24 z ≡ true
+in-range-within : (z : ℤ) → inRange z ≡ true → within leastSample mostSample z ≡ true
 unfolding inRange
-in-range-within z = by (leZ least24 z)
+in-range-within z = by (leZ leastSample z)
   where
-    by : (b : Bool) → (b && leZ z most24) ≡ true → cond b (leZ z most24) false ≡ true
+    by : (b : Bool) → (b && leZ z mostSample) ≡ true → cond b (leZ z mostSample) false ≡ true
     by true e = e
     by false e = e
 
-sample-within : (format : Format) (s : List ℕ) → Bytes s → within least24 most24 (sampleIn format (take (sizeOf format) s)) ≡ true
+sample-within : (format : Format) (s : List ℕ) → Bytes s → within leastSample mostSample (sampleIn format (take (sizeOf format) s)) ≡ true
 unfolding sampleIn field
 sample-within Bits16 s b =
     let n = field-2 s 0 in
@@ -48,19 +48,19 @@ sample-within Bits24 s b =
     let n = field-3 s 0 in
     in-range-within (sampleIn Bits24 (take 3 s)) (number-in-range (number (take 3 s)) (omega (arith, b 0, b 1, b 2)))
 
-samples-within : (n : ℕ) (format : Format) (s : List ℕ) → Bytes s → (ys : List ℤ) → allWithin least24 most24 ys ≡ true → allWithin least24 most24 (samplesOf n format s ++ ys) ≡ true
+samples-within : (n : ℕ) (format : Format) (s : List ℕ) → Bytes s → (ys : List ℤ) → allWithin leastSample mostSample ys ≡ true → allWithin leastSample mostSample (samplesOf n format s ++ ys) ≡ true
 unfolding samplesOf allWithin
 samples-within zero format s b ys h = h
 samples-within (suc n) format s b ys h =
     rw (sample-within format s b)
     (samples-within n format (drop (sizeOf format) s) (λ i. rw (getD-drop (sizeOf format) s i 0) (b (sizeOf format + i))) ys h)
 
-zeros-within : (n : ℕ) → allWithin least24 most24 (replicate n (pos 0)) ≡ true
+zeros-within : (n : ℕ) → allWithin leastSample mostSample (replicate n (pos 0)) ≡ true
 unfolding allWithin
 zeros-within zero = refl
 zeros-within (suc n) = zeros-within n
 
-pub from-within : (n : ℕ) (format : Format) (s : List ℕ) → Bytes s → allWithin least24 most24 (samplesFrom n format s) ≡ true
+pub from-within : (n : ℕ) (format : Format) (s : List ℕ) → Bytes s → allWithin leastSample mostSample (samplesFrom n format s) ≡ true
 unfolding samplesFrom
 from-within n format s b =
     let k = min (length s / sizeOf format) n in
@@ -75,8 +75,8 @@ true-of false h = absurd h
 pub out-in-range : (z : ℤ) → inRange (outOf z) ≡ true
 unfolding inRange
 out-in-range z =
-    limit-cases least24 most24 (nearest 4096 z) (λ w. (leZ least24 w && leZ w most24) ≡ true) (λ _. refl) (λ _. refl)
-    (λ l h. ap₂ _&&_ (true-of (leZ least24 (nearest 4096 z)) (l .le)) (true-of (leZ (nearest 4096 z) most24) (h .le)))
+    limit-cases leastSample mostSample (nearest 4096 z) (λ w. (leZ leastSample w && leZ w mostSample) ≡ true) (λ _. refl) (λ _. refl)
+    (λ l h. ap₂ _&&_ (true-of (leZ leastSample (nearest 4096 z)) (l .le)) (true-of (leZ (nearest 4096 z) mostSample) (h .le)))
 
 module _ (M size : ℕ) (g : ℕ → ℤ) where
   pub run-in-range : (xs lines : List ℤ) (at : ℕ) → allInRange (run published M size g lines at xs .outputs) ≡ true

@@ -22,7 +22,7 @@ use Rattle.tree.specs.Signal.{Signal, signalOf, gainOf}
 use Rattle.tree.specs.Tree.{output}
 use Rattle.tree.specs.Forms.{treeSum}
 use Rattle.tree.proofs.Recursive.{recursive-form}
-use Rattle.tree.proofs.Reach.{published-low-pass-never-limited}
+use Rattle.tree.proofs.NeverLimited.{published-low-pass-never-limited}
 use Rattle.octave.specs.declared.block.Blocked.{Blocked}
 use Rattle.octave.specs.declared.block.Blocked.the-variants.{Written}
 use Rattle.octave.specs.Answer.{blockAnswer}

@@ -1,4 +1,4 @@
--- Demand 3 over demand 2's output: each output of accepted calls from prepared memory. Assumes nothing.
+-- The third demand over the second's outputs: each output of accepted calls from prepared memory. Assumes nothing.
 use mathlib.Core.Path.{_≡_, sym, subst, _∙_}
 use mathlib.Core.Bool.{true}
 use mathlib.Core.List.{List, [], _∷_}
@@ -9,7 +9,7 @@ use lib.ListN.{length, length-append, List·getD-eq-default}
 use lib.IntN.{ℤ, pos, negℤ, natAbs, _-ℤ_, _*ℤ_}
 use lib.Signed.{_<ℤ_, leZ-yes}
 use Rattle.whole.specs.Nearest.{nearest}
-use Rattle.answers.specs.Unit.{leastSample, mostSample, leastPlace, mostPlace, largestGain}
+use Rattle.answers.specs.Unit.{leastSample, mostSample, leastPlace, mostPlace, largestGain, unity}
 use Rattle.answers.proofs.Ranges.{all-at}
 use Rattle.whole.specs.Limit.{limit}
 use Rattle.whole.proofs.Signed.{var, lit, le-by}
@@ -17,11 +17,11 @@ use Rattle.tree.specs.Prototype.{published}
 use Rattle.tree.specs.Signal.{back, signalOf, gainOf}
 use Rattle.tree.specs.Tree.{lowPass, level, delay, output}
 use Rattle.tree.specs.Exact.{commonScale, slack, farthest}
-use Rattle.tree.specs.Edges.{IsGain, AllowedGains}
+use Rattle.tree.specs.Gains.{IsGain, AllowedGains}
 use Rattle.tree.proofs.Distance.{distance}
 use Rattle.tree.proofs.Farthest.{never-past-302}
 use Rattle.tree.proofs.EqualGains.{equal-gains}
-use Rattle.tree.proofs.Reach.{reach, published-reach, published-low-pass-never-limited}
+use Rattle.tree.proofs.NeverLimited.{reach, published-reach, published-low-pass-never-limited}
 use Rattle.tree.proofs.NoCrack.{above-stays-above, below-stays-below}
 use Rattle.answers.specs.Range.{allWithin}
 use Rattle.octave.specs.Memory.{prepared}
@@ -55,8 +55,8 @@ carried-allowed m (c ∷ cs) a n h k = by (decLt n (length (c .input))) (λ l. c
 
 -- ---- the 32-bit limit
 
--- 01, Line memory: "From prepared memory that never acts, which is to be shown": line M - j of accepted calls is within its reach, far within
--- 32 bits, and so is each new value of the line below it before the limit
+-- rule 5.11: line M - j of accepted calls is within its reach, far within 32 bits, and so is each new value of the line below it before the
+-- limit
 module _ (m : List ℤ) (cs : List Call) (all : AllAccepted m cs) (n : ℕ) where
   pub line-within : (j : ℕ) → natAbs (level published j (signalOf (joined cs)) n) ≤ reach 140240 j
   line-within j = published-reach (signalOf (joined cs)) n (λ k _. samples-small m cs all k) j
@@ -74,22 +74,22 @@ module _ (M : ℕ) (least : 2 ≤ M) (most : M ≤ 10) (cs : List Call) (all : A
   allowed : AllowedGains M (carried cs) n
   allowed m _ _ = carried-allowed (prepared M) cs all n inside m
 
-  -- 01, Exact output and allowance: "at most 2,048·P plus the sum over k = 1..M-1 of |gain(k+1) - gain(k)|·E(k)·100,000^(k-1)"
-  pub written-near : natAbs (pos (4096 * commonScale M) *ℤ written M cs n -ℤ exact M cs n) ≤ 2048 * commonScale M + slack published M (carried cs) n
+  -- rule 11.5: |4,096·P·(output - exact output)| ≤ 2,048·P + slack
+  pub written-near : natAbs (pos (unity * commonScale M) *ℤ written M cs n -ℤ exact M cs n) ≤ 2048 * commonScale M + slack published M (carried cs) n
   written-near = rw is (distance published M (carried cs) (signalOf (joined cs)) n (omega arith))
 
-  -- demand 3: "never past 302 steps"
-  pub written-within-302 : natAbs (pos (4096 * commonScale M) *ℤ written M cs n -ℤ exact M cs n) ≤ farthest * (4096 * commonScale M)
+  -- rule 11.6: never past 302 steps
+  pub written-within-302 : natAbs (pos (unity * commonScale M) *ℤ written M cs n -ℤ exact M cs n) ≤ farthest * (unity * commonScale M)
   written-within-302 = rw is (never-past-302 M least most (carried cs) (signalOf (joined cs)) n allowed)
 
-  -- demand 3: "Equal gains: that gain times the input, late by the stated delay, rounded once, limited."
+  -- rule 11.7: equal gains
   pub written-equal : (G : ℤ) → ((m : ℕ) → 1 ≤ m → m ≤ M → carried cs n m ≡ G) →
-      written M cs n ≡ limit leastSample mostSample (nearest 4096 (G *ℤ back (signalOf (joined cs)) n (delay published M)))
+      written M cs n ≡ limit leastSample mostSample (nearest unity (G *ℤ back (signalOf (joined cs)) n (delay published M)))
   written-equal G e = is ∙ equal-gains published M G (carried cs) (signalOf (joined cs)) n (omega arith) e
 
-  -- no crack: a loud sample never turns over
-  pub loud-above : pos (farthest * (4096 * commonScale M)) <ℤ exact M cs n → pos 0 <ℤ written M cs n
+  -- rule 11.8, no crack: a loud sample never turns over
+  pub loud-above : pos (farthest * (unity * commonScale M)) <ℤ exact M cs n → pos 0 <ℤ written M cs n
   loud-above h = rw is (above-stays-above M least most (carried cs) (signalOf (joined cs)) n allowed h)
 
-  pub loud-below : exact M cs n <ℤ negℤ (pos (farthest * (4096 * commonScale M))) → written M cs n <ℤ pos 0
+  pub loud-below : exact M cs n <ℤ negℤ (pos (farthest * (unity * commonScale M))) → written M cs n <ℤ pos 0
   loud-below h = rw is (below-stays-below M least most (carried cs) (signalOf (joined cs)) n allowed h)

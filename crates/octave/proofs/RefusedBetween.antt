@@ -11,6 +11,7 @@ use lib.IntN.{ℤ, pos, natAbs, _-ℤ_, _*ℤ_}
 use Rattle.answers.specs.Answer.{accepted, numberIn}
 use Rattle.answers.specs.Checks.{Outcome}
 use Rattle.answers.proofs.Laws.{refused-keeps}
+use Rattle.answers.specs.Unit.{unity}
 use Rattle.tree.specs.Prototype.{published}
 use Rattle.tree.specs.Signal.{signalOf}
 use Rattle.tree.specs.Tree.{output}
@@ -91,7 +92,7 @@ module _ (M : ℕ) (least : 2 ≤ M) (most : M ≤ 10) (cs : List Call) where
 
   -- .. each within the distance of rule 4.9
   pub near-of-any : (n : ℕ) → n < length (joined taken) →
-      natAbs (pos (4096 * commonScale M) *ℤ written M cs n -ℤ exact M taken n) ≤ 2048 * commonScale M + slack published M (carried taken) n
+      natAbs (pos (unity * commonScale M) *ℤ written M cs n -ℤ exact M taken n) ≤ 2048 * commonScale M + slack published M (carried taken) n
   near-of-any n inside =
-      subst (λ (p : Played). natAbs (pos (4096 * commonScale M) *ℤ getD (p .output) n (pos 0) -ℤ exact M taken n) ≤ 2048 * commonScale M + slack published M (carried taken) n)
+      subst (λ (p : Played). natAbs (pos (unity * commonScale M) *ℤ getD (p .output) n (pos 0) -ℤ exact M taken n) ≤ 2048 * commonScale M + slack published M (carried taken) n)
       (sym (refused-between (prepared M) cs)) (written-near M least most taken (all-accepted (prepared M) cs) n inside)

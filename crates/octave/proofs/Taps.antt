@@ -1,4 +1,4 @@
--- From eleven samples to the page's sum over nineteen coefficients, and where the samples stand in the line. Assumes nothing.
+-- From eleven samples to the sum over nineteen coefficients (rule 5.7), and where the samples stand in the line. Assumes nothing.
 use mathlib.Core.Path.{_≡_, refl, ap, subst, _∙_}
 use mathlib.Core.List.{List}
 use Prim.Native.Nat.{ℕ, zero, suc, _+_, _-_, _*_, _≤_, _<_, _^_}
@@ -35,7 +35,7 @@ eleven-taps f =
     (lit 0 ⊕ lit 313 ⊗ var (f 0) ⊕ lit 0 ⊗ var (f 1) ⊕ neg (lit 1338) ⊗ var (f 2) ⊕ lit 0 ⊗ var (f 3) ⊕ lit 3593 ⊗ var (f 4) ⊕ lit 0 ⊗ var (f 5) ⊕ neg (lit 8718) ⊗ var (f 6) ⊕ lit 0 ⊗ var (f 7) ⊕ lit 31158 ⊗ var (f 8) ⊕ lit 50000 ⊗ var (f 9) ⊕ lit 31158 ⊗ var (f 10) ⊕ lit 0 ⊗ var (f 11) ⊕ neg (lit 8718) ⊗ var (f 12) ⊕ lit 0 ⊗ var (f 13) ⊕ lit 3593 ⊗ var (f 14) ⊕ lit 0 ⊗ var (f 15) ⊕ neg (lit 1338) ⊗ var (f 16) ⊕ lit 0 ⊗ var (f 17) ⊕ lit 313 ⊗ var (f 18))
     (omega arith)
 
--- ---- what is read is what the page weighs
+-- ---- what is read is what is weighed
 
 -- a sample x that was read, of 32 bits, and the value y that it is
 pub record Read (x y : ℤ) : Type 0 where

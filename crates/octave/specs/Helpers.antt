@@ -23,7 +23,7 @@ pub record Within (line : List ℤ) (size at L : ℕ) : Type 0 where
   pub held : size ≤ length line
   pub small : size ≤ 4608
 
--- what a line's sum answers: the sum, far within 64 bits for any places
+-- what a line's sum answers: rule 5.7's sum, far within 64 bits for any places (rule 5.12)
 pub record Summed (p : Prototype) (line : List ℤ) (size at L : ℕ) (x r : ℤ) : Type 0 where
   pub value : r ≡ lineSum p line size at L x
   pub bounded : natAbs r ≤ 2 ^ 51
@@ -35,6 +35,7 @@ abbrev pub eleven : ℤ → ℤ → ℤ → ℤ → ℤ → ℤ → ℤ → ℤ 
 eleven x0 x2 x4 x6 x8 x9 x10 x12 x14 x16 x18 =
     pos 0 +ℤ pos 313 *ℤ x0 +ℤ negsuc 1337 *ℤ x2 +ℤ pos 3593 *ℤ x4 +ℤ negsuc 8717 *ℤ x6 +ℤ pos 31158 *ℤ x8 +ℤ pos 50000 *ℤ x9 +ℤ pos 31158 *ℤ x10 +ℤ negsuc 8717 *ℤ x12 +ℤ pos 3593 *ℤ x14 +ℤ negsuc 1337 *ℤ x16 +ℤ pos 313 *ℤ x18
 
+-- .. far within 64 bits (rule 5.12)
 pub record Weighed (x0 x2 x4 x6 x8 x9 x10 x12 x14 x16 x18 r : ℤ) : Type 0 where
   pub value : r ≡ eleven x0 x2 x4 x6 x8 x9 x10 x12 x14 x16 x18
   pub size : natAbs r ≤ 2 ^ 51
@@ -63,8 +64,8 @@ pub record Differ (bands : ℕ) (g : ℕ → ℤ) (differences : List ℤ) : Typ
 pub record Small (differences : List ℤ) : Type 0 where
   pub range : (i : ℕ) → natAbs (getD differences i (pos 0)) ≤ 2 ^ 15
 
--- what the step answers: the places afterwards, and the gain sum less the gain above times the aligned sample, far within 64 bits for any
--- places. The sum over the lines of difference times aligned sample is that: g(b)·(a(b) - a(b-1)) over the bands, summed by parts.
+-- what the step answers: the places afterwards, and r = Σ over m = 1..bands of (g(m) - g(m+1))·a(m), with a(m) the aligned sample of line m.
+-- By rule 3.13 that is the gain sum less g(bands+1)·a(bands). |r| ≤ bands·2^46 for any places (rule 5.12).
 pub record StepDone (p : Prototype) (bands size at L : ℕ) (differences lines : List ℤ) (x : ℤ) (places : List ℤ) (r : ℤ) : Type 0 where
   pub places-are : (g : ℕ → ℤ) → places ≡ step p bands size at L g lines x .places
   pub sum-is : (g : ℕ → ℤ) → Differ bands g differences → r ≡ step p bands size at L g lines x .sum -ℤ g (suc bands) *ℤ step p bands size at L g lines x .aligned
@@ -72,14 +73,16 @@ pub record StepDone (p : Prototype) (bands size at L : ℕ) (differences lines :
 
 -- ---- the run
 
+-- a sample's places and output
 pub record Answered (o : Out) (places : List ℤ) (sample : ℤ) : Type 0 where
   pub places-are : places ≡ o .places
   pub sample-is : sample ≡ o .sample
 
--- a sample's output, under the gains whose differences the code goes by
+-- .. for any gains g with these differences and g(bands+1) = 0, so that the top line counts with g(bands) itself
 pub record AnsweredUnder (p : Prototype) (bands size at : ℕ) (differences lines : List ℤ) (x : ℤ) (places : List ℤ) (sample : ℤ) : Type 0 where
   pub under : (g : ℕ → ℤ) → Differ bands g differences → g (suc bands) ≡ pos 0 → Answered (answered p bands size at g lines x) places sample
 
+-- the samples' places, position and outputs
 pub record RunDone (r : Ran) (places : List ℤ) (position : ℕ) (outputs : List ℤ) : Type 0 where
   pub places-are : places ≡ r .places
   pub position-is : position ≡ r .position

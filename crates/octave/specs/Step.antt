@@ -8,15 +8,14 @@ use Rattle.tree.specs.Prototype.{Prototype}
 use Rattle.tree.specs.Forms.{treeDelay}
 use Rattle.octave.specs.Line.{ago, lowValue}
 
--- the places afterwards, the gain sum of the bands, this line's aligned sample
+-- rule 5.8: the places afterwards, the gain sum of the bands, this line's aligned sample
 pub record Stepped : Type 0 where
   pub places : List ℤ
   pub sum : ℤ
   pub aligned : ℤ
 
 module _ (p : Prototype) where
-  -- 01, The tree: "the low line is itself the same tree with one band fewer and the stretch doubled. In the line memory the tree
-  -- below works only in the rest of the memory, behind its parent's line."
+  -- rules 3.12, 5.7 to 5.10: the low sample goes to the same tree with one band fewer and the stretch doubled, in the places behind this line
   unfoldable pub step : ℕ → ℕ → ℕ → ℕ → (ℕ → ℤ) → List ℤ → ℤ → Stepped
   step zero size at L g lines x = record { places = lines; sum = pos 0; aligned = x }
   step (suc zero) size at L g lines x = record { places = lines; sum = g 1 *ℤ x; aligned = x }

@@ -22,7 +22,7 @@ fn next(size: usize, at: usize) -> usize
     0
 }
 
-// One sample: through the lines, then rounded once and limited once. No gain stands above the top band's.
+// One sample: through the lines, then rounded once and limited once. The top line has no gain above its own: its difference is g(M).
 fn answer(
     lines: &mut [i32],
     size: usize,

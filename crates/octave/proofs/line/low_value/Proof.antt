@@ -1,4 +1,4 @@
--- `line::low_value` meets its contract: each way's sum is the page's, rounded and limited once. Assumes nothing.
+-- `line::low_value` meets its contract: each way's sum is rule 5.7's, rounded and limited once. Assumes nothing.
 use denote.Ref.{now}
 use borrow.Author.Needs.{needs}
 use Rattle.tree.specs.Prototype.{published}
