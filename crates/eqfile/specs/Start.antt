@@ -1,4 +1,4 @@
--- 01, Refusal numbers, the row "program": "30 ..; then the reader's; then 26 for the length to be written".
+-- How a run starts: 30 for the arguments, then the reader's refusals, then 26 for the length to be written.
 use mathlib.Core.Bool.{cond}
 use mathlib.Core.List.{List}
 use Prim.Native.Nat.{ℕ, _*_, _/_}
@@ -6,6 +6,9 @@ use lib.Dec.{eqb, ltb}
 use Rattle.wave.specs.Answer.{Answer, accepted, refused}
 use Rattle.wave.specs.Values.{bitsOf, blockSize}
 use Rattle.wave.specs.Walk.{Found, readOf}
+use Rattle.eqfile.specs.declared.taking.Arguments.{Arguments}
+use Rattle.eqfile.specs.declared.taking.Arguments.the-variants as arguments
+use Rattle.eqfile.specs.Arguments.{bands}
 use Rattle.eqfile.specs.declared.order.Refusal.{Refusal}
 use Rattle.eqfile.specs.declared.order.Refusal.the-variants as refusal
 use Rattle.eqfile.specs.declared.order.Start.{Start}
@@ -35,16 +38,16 @@ planFor f =
     cond (ltb 4294967259 (3 * samples)) (refused 26)
     (accepted (record { rate = f .rate; bits = f .bits; samples = samples; start = f .start }))
 
--- "then the reader's; then 26"
+-- then the reader's; then 26
 unfoldable pub planOf : Answer Found → Answer Plan
 planOf (accepted f) = planFor f
 planOf (refused n) = refused n
 
--- first 30: refused arguments, "and any other number" than eight
-unfoldable pub startOf : Answer ℕ → List ℕ → Answer Plan
+-- first 30: refused arguments, and any other number than eight
+unfoldable pub startOf : Arguments → List ℕ → Answer Plan
 unfolding planOf
-startOf (accepted n) front = cond (eqb n 8) (planOf (readOf front)) (refused 30)
-startOf (refused k) front = refused 30
+startOf (arguments.Taken n) front = cond (eqb n bands) (planOf (readOf front)) (refused 30)
+startOf arguments.Refused front = refused 30
 
 -- the page's number and values for `Start`
 abbrev pub startAnswer : Start → Answer Plan

@@ -1,11 +1,11 @@
 // How a run starts: the checks in their order.
 use crate::small::size;
 use crate::taking::Arguments;
+use crate::taking::BANDS;
 use wave::Format;
 use wave::Reading;
 ghost use mathlib.Core.Path.{_≡_};
 ghost use Rattle.wave.specs.Walk.{readAnswer};
-ghost use Rattle.eqfile.specs.Arguments.{argumentsAnswer};
 ghost use Rattle.eqfile.specs.Start.{numberOf, planOf, startOf, startAnswer};
 
 pub enum Refusal {
@@ -82,12 +82,12 @@ fn plan(reading: Reading) -> Start
 
 // The arguments, then the header, then the length to be written.
 pub fn begin(arguments: Arguments, front: &[u8]) -> Start
-    ensures { λ r. ⌜ startAnswer r ≡ startOf (argumentsAnswer arguments) (now (front .entry)) ⌝ }
+    ensures { λ r. ⌜ startAnswer r ≡ startOf arguments (now (front .entry)) ⌝ }
 {
     let Arguments::Taken(n) = arguments else {
         return Start::Refused(Refusal::Arguments);
     };
-    if n != 8 {
+    if n != BANDS {
         return Start::Refused(Refusal::Arguments);
     }
     plan(wave::read(front))

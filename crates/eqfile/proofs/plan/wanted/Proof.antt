@@ -3,30 +3,15 @@ use mathlib.Core.Path.{sym, _∙_}
 use native.Mathlib.Omega.{arith}
 use borrow.Author.Tests.{not-true, not-false}
 use Rattle.wave.specs.Block.{sizeOf}
-use Rattle.eqfile.proofs.Plans.{product-fits, ended, not-ended}
+use Rattle.eqfile.proofs.Turns.{product-fits, ended, not-ended}
 use borrow.Author.Needs.{needs}
 use Rattle.eqfile.proofs.plan.wanted.Statement.{statement}
 use Rattle.eqfile.proofs.plan.wanted.Tie as tie
-
-all-read-requires : tie.Need-all-read-requires
-all-read-requires c κs = search needs
 
 returns : tie.Need-returns
 returns c =
     let a = c .before .before .args in
     ended (sizeOf (a .format)) (a .samples) (a .at) (a .read) (a .fed) (sym (c .before .all-read .ensures) ∙ not-true (c .before .all-read .result) (c .if1 .taken))
-
-size-requires : tie.Need-size-requires
-size-requires c κs = search needs
-
-cast-result : tie.Need-cast-result
-cast-result c = search needs
-
-left-requires : tie.Need-left-requires
-left-requires c κs = search needs
-
-least-requires : tie.Need-least-requires
-least-requires c κs = search needs
 
 mul-result : tie.Need-mul-result
 mul-result c = product-fits (c .before .before .size .result) (c .least .result) (c .before .before .size .ensures .2) (omega arith)
@@ -43,12 +28,5 @@ returns-2 c =
 pub wanted-spec : {M : Type 1} → statement M
 wanted-spec =
     tie.close
-    (tie.spec
-    all-read-requires
-    returns
-    size-requires
-    cast-result
-    left-requires
-    least-requires
-    mul-result
+    (tie.spec (λ c κs. search needs) returns (λ c κs. search needs) (λ c. search needs) (λ c κs. search needs) (λ c κs. search needs) mul-result
     returns-2)

@@ -6,12 +6,6 @@ use borrow.Author.Needs.{needs}
 use Rattle.eqfile.proofs.small.size.Statement.{statement}
 use Rattle.eqfile.proofs.small.size.Tie as tie
 
-enum-told : tie.Need-enum-told
-enum-told c = search needs
-
-enum-told-2 : tie.Need-enum-told-2
-enum-told-2 c = search needs
-
 returns : tie.Need-returns
 returns c = (sym (ap sizeOf (c .enum-told .given .1)), omega arith, omega arith)
 
@@ -19,4 +13,6 @@ returns-2 : tie.Need-returns-2
 returns-2 c = (sym (ap sizeOf (c .enum-told2 .given .1)), omega arith, omega arith)
 
 pub size-spec : {M : Type 1} → statement M
-size-spec = tie.close (tie.spec enum-told enum-told-2 returns returns-2)
+size-spec =
+    tie.close
+    (tie.spec (λ c. search needs) (λ c. search needs) returns returns-2)

@@ -21,7 +21,8 @@ use Rattle.wave.specs.declared.format.Format.{Format}
 use Rattle.octave.specs.Answer as octave
 use Rattle.octave.specs.Block.{BlockDone, blockOf}
 use Rattle.eqfile.specs.Data.{samplesFrom}
-use Rattle.eqfile.specs.Equalise.{countOf, storedOf, equaliseOf, Equalised}
+use Rattle.answers.specs.Checks.{Done}
+use Rattle.eqfile.specs.Equalise.{countOf, storedOf, equaliseOf}
 
 module _ (memory gains : List ℤ) (format : Format) (bytes : List ℕ) (input output : List ℤ) (skipped : ℕ) (stored : List ℕ)
     (samples m o : List ℤ) (a : octave.Answer) (s : samples ≡ samplesFrom (length input) format bytes) (b : BlockDone (blockOf memory gains samples output) a m o) where
@@ -32,17 +33,20 @@ module _ (memory gains : List ℤ) (format : Format) (bytes : List ℕ) (input o
   output-is = b .output-is ∙ ap (λ (x : List ℤ). blockOf memory gains x output .output) s
 
   block-stored : (n : ℕ) (t : List ℕ) → (n, t) ≡ storedOf o skipped stored →
-      Equalised (equaliseOf memory gains format bytes input output skipped stored) n m samples o t
+      Done (equaliseOf memory gains format bytes input output skipped stored) n (record { memory = m; input = samples; output = o; stored = t })
   unfolding equaliseOf
   block-stored n t e =
       let p = e ∙ ap (λ (x : List ℤ). storedOf x skipped stored) output-is in
-      record { count-is = ap (λ (x : ℕ × List ℕ). x .0) p; memory-is = memory-is; input-is = s; output-is = output-is; stored-is = ap (λ (x : ℕ × List ℕ). x .1) p }
+      record {
+        result-is = ap (λ (x : ℕ × List ℕ). x .0) p;
+        lent-is = λ i. record { memory = memory-is i; input = s i; output = output-is i; stored = p i .1 };
+      }
 
-  pub nothing-stored : length o < skipped → Equalised (equaliseOf memory gains format bytes input output skipped stored) 0 m samples o stored
+  pub nothing-stored : length o < skipped → Done (equaliseOf memory gains format bytes input output skipped stored) 0 (record { memory = m; input = samples; output = o; stored = stored })
   nothing-stored h = block-stored 0 stored (rw (lt-ltb (length o) skipped h))
 
   pub outputs-stored : (n : Answer ℕ) (t : List ℕ) → skipped ≤ length o → (n, t) ≡ blockTo (take (length o - skipped) (drop skipped o)) stored →
-      Equalised (equaliseOf memory gains format bytes input output skipped stored) (countOf n) m samples o t
+      Done (equaliseOf memory gains format bytes input output skipped stored) (countOf n) (record { memory = m; input = samples; output = o; stored = t })
   outputs-stored n t h e =
       let part : take (length o - skipped) (drop skipped o) ≡ drop skipped o = take-all (length o - skipped) (drop skipped o) (simp length-drop (omega arith)) in
       let p = e ∙ ap (λ (x : List ℤ). blockTo x stored) part in
@@ -65,7 +69,7 @@ stored-within samples stored = by (eqb (length stored) (3 * length samples)) (al
     by false b = omega arith
 
 pub count-within : (memory gains : List ℤ) (format : Format) (bytes : List ℕ) (input output : List ℤ) (skipped : ℕ) (stored : List ℕ) →
-    equaliseOf memory gains format bytes input output skipped stored .count ≤ length stored
+    equaliseOf memory gains format bytes input output skipped stored .result ≤ length stored
 unfolding equaliseOf
 count-within memory gains format bytes input output skipped stored =
     by (blockOf memory gains (samplesFrom (length input) format bytes) output .output)

@@ -15,7 +15,7 @@ use Rattle.wave.specs.Sample.{sampleIn}
 use Rattle.wave.specs.declared.format.Format.{Format}
 use Rattle.wave.proofs.Blocks.{length-samples}
 use Rattle.eqfile.specs.Data.{samplesFrom}
-use Rattle.eqfile.proofs.Plans.{few-bytes}
+use Rattle.eqfile.proofs.Turns.{few-bytes}
 
 drop-take : {A : Type 0} (m n : ℕ) (l : List A) → drop m (take (m + n) l) ≡ take n (drop m l)
 drop-take zero n l = ap (λ (k : ℕ). take k l) (zero-add n)

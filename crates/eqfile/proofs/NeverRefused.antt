@@ -12,6 +12,7 @@ use Rattle.whole.specs.Limit.{least24, most24}
 use Rattle.tree.specs.Prototype.{published}
 use Rattle.tree.specs.Signal.{gainOf}
 use Rattle.octave.specs.declared.memory.Kept.the-variants.{Bands}
+use Rattle.answers.specs.Unit.{blockLimit, largestGain}
 use Rattle.octave.specs.Range.{allWithin}
 use Rattle.octave.specs.Answer as octave
 use Rattle.octave.specs.Memory.{lineLength, prepared, keptOf}
@@ -67,9 +68,9 @@ pub record Done (input : List ℤ) (b : Blocking) : Type 0 where
 
 pub record Allowed (gains : List ℤ) : Type 0 where
   pub eight : length gains ≡ 8
-  pub each : allWithin (pos 0) (pos 16384) gains ≡ true
+  pub each : allWithin (pos 0) (pos largestGain) gains ≡ true
 
-pub block-done : (m gains input before : List ℤ) → Ready m → Allowed gains → length before ≡ length input → length input ≤ 4096 →
+pub block-done : (m gains input before : List ℤ) → Ready m → Allowed gains → length before ≡ length input → length input ≤ blockLimit →
     allWithin least24 most24 input ≡ true → Done input (blockOf m gains input before)
 block-done m gains input before s g alike short range =
     let size = lineLength 8 in
@@ -91,7 +92,7 @@ block-done m gains input before s g alike short range =
     kept = sym (kept-bands m' (λ e. omega arith) refl (omega (arith, s .region .whole)) (le-ltb (s .at) 0 (omega arith)) (s .region .inside))
 
     is : blockOf m' gains input before ≡ accept 8 m' gains input
-    is = rw (kept, eq-eqb (length gains) 8 (g .eight), g .each, eq-eqb (length before) (length input) alike, le-leb (length input) 4096 short, range)
+    is = rw (kept, eq-eqb (length gains) 8 (g .eight), g .each, eq-eqb (length before) (length input) alike, le-leb (length input) blockLimit short, range)
 
 -- ---- the bytes stored
 

@@ -12,6 +12,9 @@ use Rattle.wave.specs.Values.{bitsOf, blockSize}
 use Rattle.wave.specs.Walk.{Found, readOf, readAnswer}
 use Rattle.wave.specs.declared.format.Format.{Format}
 use Rattle.wave.specs.declared.reader.Reading.the-variants.{Accepted}
+use Rattle.eqfile.specs.declared.taking.Arguments.{Arguments}
+use Rattle.eqfile.specs.declared.taking.Arguments.the-variants as arguments
+use Rattle.eqfile.specs.Arguments.{bands}
 use Rattle.eqfile.specs.Start.{Plan, planFor, planOf, startOf}
 
 pub reader-refuses : (k : ℕ) → refused k ≡ planOf (refused k)
@@ -28,17 +31,17 @@ module _ (rate : ℕ) (format : Format) (size start block : ℕ) (is : block ≡
   unfolding planOf
   to-be-written h = rw (is, le-ltb 4294967259 (3 * (size / sizeOf format)) (rw is at h))
 
-pub arguments-refused : (k : ℕ) (front : List ℕ) → refused 30 ≡ startOf (refused k) front
+pub arguments-refused : (front : List ℕ) → refused 30 ≡ startOf arguments.Refused front
 unfolding startOf
-arguments-refused k front = refl
+arguments-refused front = refl
 
-pub not-eight : (n : ℕ) (front : List ℕ) → (n ≡ 8 → ⊥) → refused 30 ≡ startOf (accepted n) front
+pub not-eight : (n : ℕ) (front : List ℕ) → (n ≡ bands → ⊥) → refused 30 ≡ startOf (arguments.Taken n) front
 unfolding startOf
-not-eight n front h = rw (ne-eqb n 8 h)
+not-eight n front h = rw (ne-eqb n bands h)
 
-pub eight : (n : ℕ) (front : List ℕ) (a : Answer Plan) → n ≡ 8 → a ≡ planOf (readOf front) → a ≡ startOf (accepted n) front
+pub eight : (n : ℕ) (front : List ℕ) (a : Answer Plan) → n ≡ bands → a ≡ planOf (readOf front) → a ≡ startOf (arguments.Taken n) front
 unfolding startOf
-eight n front a h e = rw (eq-eqb n 8 h, e)
+eight n front a h e = rw (eq-eqb n bands h, e)
 
 -- a run that starts has samples that can be written
 abbrev pub Writable : Answer Plan → Type 0
@@ -58,10 +61,10 @@ unfolding planOf
 writable-read (accepted f) = writable-plan f
 writable-read (refused k) = tt
 
-pub writable : (a : Answer ℕ) (front : List ℕ) → Writable (startOf a front)
+pub writable : (a : Arguments) (front : List ℕ) → Writable (startOf a front)
 unfolding startOf
-writable (refused k) front = tt
-writable (accepted n) front = by (eqb n 8)
+writable arguments.Refused front = tt
+writable (arguments.Taken n) front = by (eqb n bands)
   where
     by : (b : Bool) → Writable (cond b (planOf (readOf front)) (refused 30))
     by true = writable-read (readOf front)
