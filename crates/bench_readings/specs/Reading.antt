@@ -27,7 +27,7 @@ abbrev pub shown : Answer → Shown
 shown (accepted g) = number g
 shown (refused n) = refusal n
 
--- what is read at n, by the tree's own definitions, and a gain, at any n, by the gain command's
+-- what the definitions give at n; a gain is the same at every n
 unfoldable pub read : Reading → ℕ → Shown
 read (output-of M gains samples) n = number (output published M (λ _. gainOf gains) (signalOf samples) n)
 read (line-of M k samples) n = number (line published M (signalOf samples) k n)

@@ -1,4 +1,5 @@
--- A ring read back: what a line shows, and that a new sample keeps it. Assumes nothing.
+-- A ring shows a signal: d back in the ring is the signal at n - d. A new sample, put at the position, keeps that for n + 1.
+-- Assumes nothing.
 use mathlib.Core.Path.{_≡_, refl, sym, ap, subst, _∙_}
 use mathlib.Core.Bool.{Bool, true, false, cond}
 use mathlib.Core.List.{List, _++_}
@@ -33,14 +34,14 @@ next-cases size at P inside around = by (ltb (at + 1) size) refl
 place-inside : (size at d : ℕ) → 1 ≤ d → d ≤ size → at < size → place size at d < size
 place-inside size at d l h i = place-cases size at d (λ k. k < size) (λ q. omega arith) (λ q. omega arith)
 
--- after a sample, one back is where it was put
+-- place(next at, 1) = at: after a sample, one back is where it was put
 place-newest : (size at : ℕ) → at < size → place size (next size at) 1 ≡ at
 place-newest size at i =
     next-cases size at (λ k. place size k 1 ≡ at)
     (λ h. place-cases size (at + 1) 1 (λ k. k ≡ at) (λ q. omega arith) (λ q. omega arith))
     (λ h. place-cases size 0 1 (λ k. k ≡ at) (λ q. omega arith) (λ q. omega arith))
 
--- .. and d + 1 back is where d back was
+-- place(next at, d + 1) = place(at, d): every older sample stays where it was
 place-older : (size at d : ℕ) → 1 ≤ d → d < size → at < size → place size (next size at) (suc d) ≡ place size at d
 place-older size at d l h i =
     next-cases size at (λ k. place size k (suc d) ≡ place size at d)
@@ -51,13 +52,13 @@ place-older size at d l h i =
     (λ p. place-cases size 0 (suc d) (λ k. k ≡ at - d) (λ r. omega arith) (λ r. omega arith))
     (λ p. place-cases size 0 (suc d) (λ k. k ≡ at + size - d) (λ r. omega arith) (λ r. omega arith)))
 
--- the new sample's place is none of the kept ones
+-- place(at, d) ≠ at for d < size: the new sample overwrites only the one `size` back
 place-other : (size at d : ℕ) → 1 ≤ d → d < size → place size at d ≡ at → ⊥
 place-other size at d l h = place-cases size at d (λ k. k ≡ at → ⊥) (λ q e. omega arith) (λ q e. omega arith)
 
 -- ---- what a line shows
 
--- the line shows the signal up to sample n, which is the next: d back is the signal d back
+-- n samples were put: d back in the line is s at n - d, for d from 1 to the line's length
 unfoldable pub Shows : List ℤ → ℕ → ℕ → Signal → ℕ → Type 0
 Shows line size at s n = (d : ℕ) → 1 ≤ d → d ≤ size → ago line size at d ≡ back s n d
 
@@ -76,7 +77,7 @@ back-older s n d = by (leb d n) refl
 back-newest : (s : Signal) (n : ℕ) → back s (suc n) 1 ≡ s n
 back-newest s n = back-in s {n = suc n} {d = 1} (omega arith) ∙ ap s (omega arith)
 
--- a new sample keeps it
+-- with the sample s(n) put at the position, the line shows n + 1 samples
 pub shows-next : (line rest : List ℤ) (size at : ℕ) (s : Signal) (n : ℕ) → at < size → size ≤ length line → Shows line size at s n →
     Shows (take size (set line at (s n)) ++ rest) size (next size at) s (suc n)
 unfolding Shows

@@ -1,4 +1,4 @@
--- From eleven samples to the page's sum over nineteen coefficients, and where the samples stand in the line. Assumes nothing.
+-- From eleven samples to the sum over nineteen coefficients (rule 5.7), and where the samples stand in the line. Assumes nothing.
 use mathlib.Core.Path.{_≡_, refl, ap, subst, _∙_}
 use mathlib.Core.List.{List}
 use Prim.Native.Nat.{ℕ, zero, suc, _+_, _-_, _*_, _≤_, _<_, _^_}
@@ -16,12 +16,13 @@ use mir.Facts.{toZ-ofZ}
 use Rattle.whole.specs.Sum.{sum}
 use Rattle.whole.proofs.Signed.{var, lit, neg, _⊕_, _⊗_, eq-by, about}
 use Rattle.whole.specs.Nearest.{nearest}
-use Rattle.whole.specs.Limit.{limit, least32, most32}
+use Rattle.answers.specs.Unit.{leastPlace, mostPlace}
+use Rattle.whole.specs.Limit.{limit}
 use Rattle.whole.proofs.Limit.{limit32-fits}
 use Rattle.whole.proofs.Rounded.{raw, nearest-fits}
 use Rattle.tree.specs.Prototype.{published, coefficient}
-use Rattle.octave.specs.Low.{eleven, Weighed}
-use Rattle.octave.specs.Line.{place, tap, lineSum, lowValue, Summed}
+use Rattle.octave.specs.Line.{place, tap, lineSum, lowValue}
+use Rattle.octave.specs.Helpers.{eleven, Weighed, Summed}
 
 -- ---- eleven products are the nineteen
 
@@ -34,7 +35,7 @@ eleven-taps f =
     (lit 0 ⊕ lit 313 ⊗ var (f 0) ⊕ lit 0 ⊗ var (f 1) ⊕ neg (lit 1338) ⊗ var (f 2) ⊕ lit 0 ⊗ var (f 3) ⊕ lit 3593 ⊗ var (f 4) ⊕ lit 0 ⊗ var (f 5) ⊕ neg (lit 8718) ⊗ var (f 6) ⊕ lit 0 ⊗ var (f 7) ⊕ lit 31158 ⊗ var (f 8) ⊕ lit 50000 ⊗ var (f 9) ⊕ lit 31158 ⊗ var (f 10) ⊕ lit 0 ⊗ var (f 11) ⊕ neg (lit 8718) ⊗ var (f 12) ⊕ lit 0 ⊗ var (f 13) ⊕ lit 3593 ⊗ var (f 14) ⊕ lit 0 ⊗ var (f 15) ⊕ neg (lit 1338) ⊗ var (f 16) ⊕ lit 0 ⊗ var (f 17) ⊕ lit 313 ⊗ var (f 18))
     (omega arith)
 
--- ---- what is read is what the page weighs
+-- ---- what is read is what is weighed
 
 -- a sample x that was read, of 32 bits, and the value y that it is
 pub record Read (x y : ℤ) : Type 0 where
@@ -106,14 +107,14 @@ pub sum-in-reach : {line : List ℤ} {size at L : ℕ} {x s : ℤ} → Summed pu
 sum-in-reach {s = s} h = rw (toZ-ofZ (small-fits s (h .bounded))) (omega (arith, h .bounded))
 
 pub low-value-is : {line : List ℤ} {size at L : ℕ} {x s n r : ℤ} → Summed published line size at L x s →
-    n ≡ nearest 100000 (raw w64 s) → r ≡ limit least32 most32 (raw w64 n) → raw w32 r ≡ lowValue published line size at L x
+    n ≡ nearest 100000 (raw w64 s) → r ≡ limit leastPlace mostPlace (raw w64 n) → raw w32 r ≡ lowValue published line size at L x
 unfolding lowValue
 low-value-is {line} {size} {at} {L} {x} {s} {n} {r} h e l =
     let s-is : raw w64 s ≡ lineSum published line size at L x = toZ-ofZ (small-fits s (h .bounded)) ∙ h .value in
     let n-is : n ≡ nearest 100000 (lineSum published line size at L x) = e ∙ ap (nearest 100000) s-is in
     let n-fits : SFits w64 n = rw e (nearest-fits 100000 (lit< tt) (lit≤ tt) (raw w64 s) (sum-in-reach h)) in
-    let r-is : r ≡ limit least32 most32 n = l ∙ ap (limit least32 most32) (toZ-ofZ n-fits) in
-    toZ-ofZ (rw r-is (limit32-fits n)) ∙ r-is ∙ ap (limit least32 most32) n-is
+    let r-is : r ≡ limit leastPlace mostPlace n = l ∙ ap (limit leastPlace mostPlace) (toZ-ofZ n-fits) in
+    toZ-ofZ (rw r-is (limit32-fits n)) ∙ r-is ∙ ap (limit leastPlace mostPlace) n-is
 
 -- ---- the aligned sample: `size - 9·L` back is 9·L ahead, in the ring
 

@@ -3,7 +3,8 @@
 ghost use mathlib.Core.Path.{_≡_};
 ghost use Prim.Native.Nat.{_≤_, _<_, _*_, _-_};
 ghost use Rattle.tree.specs.Prototype.{published};
-ghost use Rattle.octave.specs.Line.{place, ago, lowValue, Within, Summed};
+ghost use Rattle.octave.specs.Line.{place, ago, lowValue};
+ghost use Rattle.octave.specs.Helpers.{Within, Summed};
 use crate::low::weigh;
 use whole::limiting::limit_32;
 use whole::rounding::nearest_100000;
@@ -19,8 +20,8 @@ fn place(size: usize, at: usize, d: usize) -> usize
     at + size - d
 }
 
-// The sum where no tap wraps: the usual path. The taps count upward in a window of the line, from the oldest on, so that
-// their places come of l alone.
+// The sum where 18·l <= at, so that no tap wraps: the usual path. In a window of the line from the oldest tap on, the tap i·l
+// back stands at (18 - i)·l.
 fn straight(line: &[i32], size: usize, at: usize, l: usize, x: i32) -> i64
     requires { ⌜ Within (now line) size at l × (18 * l ≤ at) ⌝ }
     ensures { λ r. ⌜ Summed published (now (line .entry)) size at l x r ⌝ }
@@ -42,7 +43,8 @@ fn straight(line: &[i32], size: usize, at: usize, l: usize, x: i32) -> i64
     )
 }
 
-// The sum where the sample 9·l back wraps: so does every older one, and a window from the oldest on has them.
+// The sum where at < 9·l: the sample 9·l back wraps, and so does every older one. A window from the oldest on has them all;
+// each of the newer ones may wrap or not.
 fn near_wraps(line: &[i32], size: usize, at: usize, l: usize, x: i32) -> i64
     requires { ⌜ Within (now line) size at l × (at < 9 * l) ⌝ }
     ensures { λ r. ⌜ Summed published (now (line .entry)) size at l x r ⌝ }
@@ -68,7 +70,8 @@ fn near_wraps(line: &[i32], size: usize, at: usize, l: usize, x: i32) -> i64
     )
 }
 
-// The sum where none but older ones may wrap, and the oldest does.
+// The sum where 9·l <= at < 18·l: the samples up to 9·l back stand before the position, in a window from that one on. Of the older
+// ones, the one 18·l back wraps, and each of the others may wrap or not.
 fn far_wraps(line: &[i32], size: usize, at: usize, l: usize, x: i32) -> i64
     requires { ⌜ Within (now line) size at l × (9 * l ≤ at) × (at < 18 * l) ⌝ }
     ensures { λ r. ⌜ Summed published (now (line .entry)) size at l x r ⌝ }

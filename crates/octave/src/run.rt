@@ -4,8 +4,8 @@ ghost use Prim.Native.Nat.{_≤_, _<_};
 ghost use lib.ListN.{length};
 ghost use Rattle.tree.specs.Prototype.{published};
 ghost use Rattle.tree.specs.Signal.{gainOf};
-ghost use Rattle.octave.specs.Step.{Region, Allowed, Small};
-ghost use Rattle.octave.specs.Run.{next, run, AnsweredUnder, RunDone};
+ghost use Rattle.octave.specs.Run.{next, run};
+ghost use Rattle.octave.specs.Helpers.{Region, Allowed, Small, AnsweredUnder, RunDone};
 use crate::cascade::step;
 use crate::differences::differences;
 use whole::limiting::limit_24;
@@ -22,7 +22,7 @@ fn next(size: usize, at: usize) -> usize
     0
 }
 
-// One sample: through the lines, then rounded once and limited once. No gain stands above the top band's.
+// One sample: through the lines, then rounded once and limited once. The top line has no gain above its own: its difference is g(M).
 fn answer(
     lines: &mut [i32],
     size: usize,

@@ -1,5 +1,6 @@
--- The aligned form: a held-back band is the difference of two aligned lines, so the gain sum goes by differences of
--- neighbouring gains. It holds of any lines, the rounded and the exact ones alike. Assumes nothing.
+-- The aligned form of the gain sum. Write a(k) for line k, late by what makes it as late as line 1 (`aligned`), and a(0) = 0. Then the
+-- held-back band m is a(m) - a(m-1), so the sum of g(m)·band m is g(M)·a(M) plus the sum over k = 1..M-1 of (g(k) - g(k+1))·a(k).
+-- It holds of any lines, the rounded and the exact ones alike. Assumes nothing.
 use mathlib.Core.Path.{_≡_, sym, ap, ap₂, _∙_}
 use Prim.Native.Nat.{ℕ, zero, suc, _+_, _-_, _*_, _^_, _≤_, _<_}
 use native.Mathlib.Nat.{mul-le-mul-left, mul-sub, sub-self, mul-zero, pow-succ'}
@@ -16,21 +17,22 @@ use Rattle.tree.specs.Forms.{aligned, alignedSum}
 use Rattle.tree.proofs.Back.{back-zero, back-back, back--}
 use Rattle.tree.proofs.Delays.{hold-back-makes-delay}
 
--- ---- numbers
+-- ---- delays
 
--- h makes up what y lacks to x, each less one
+-- (here D is the centre, x is 2^(M-1), y a stretch) the hold-back h as a multiple of D, the way `aligned` has it
 rest-is : (D x y h : ℕ) → 1 ≤ y → y ≤ x → h + D * (y - 1) ≡ D * (x - 1) → h ≡ D * (x - y)
 rest-is D x y h l k e =
     rw (mul-sub D x y)
     (omega (arith, rw (mul-sub D y 1, mul-sub D x 1) at e, mul-le-mul-left D l, mul-le-mul-left D k))
 
--- one y less is held back where one y is added
+-- the delay of a band's own line, D·y, and the hold-back, D·(x - 2·y), add up to that line's alignment
 less-is : (D x y : ℕ) → 2 * y ≤ x → D * y + D * (x - 2 * y) ≡ D * (x - y)
 less-is D x y l = rw (mul-sub D x (2 * y), mul-sub D x y) (omega (arith, mul-le-mul-left D l))
 
 module _ (p : Prototype) (M : ℕ) (lines : ℕ → Signal) (n : ℕ) where
   -- ---- a held-back band
 
+  -- band m is a(m) - a(m-1), at m = k + 2: the hold-back is what aligns line m-1, and with the band's own delay what aligns line m
   pub held-back-is : (k : ℕ) → suc (suc k) ≤ M →
       heldBack p M lines (suc (suc k)) n ≡ aligned p M lines (suc (suc k)) n -ℤ aligned p M lines (suc k) n
   unfolding band
@@ -61,7 +63,7 @@ module _ (p : Prototype) (M : ℕ) (lines : ℕ → Signal) (n : ℕ) where
           rw (lower, e, pow-succ' 2 (M - suc (suc k)))
           (less-is (p .centre) (2 ^ (M - 1)) (2 ^ (M - suc (suc k))) (rw (pow-succ' 2 (M - suc (suc k))) at fits))
 
-  -- "Band 1 is line 1 .. band 1 by nothing": it is aligned as it stands
+  -- band 1 is a(1): line 1 is the latest of all, so nothing is added to its delay
   pub lowest-is : heldBack p M lines 1 n ≡ aligned p M lines 1 n
   unfolding band holdBack
   lowest-is =
@@ -70,17 +72,18 @@ module _ (p : Prototype) (M : ℕ) (lines : ℕ → Signal) (n : ℕ) where
 
   -- ---- the gain sum
 
-  -- the aligned lines from below, with nothing under line 1
+  -- a(k), with a(0) = 0
   unfoldable pub rising : ℕ → ℤ
   rising zero = pos 0
   rising (suc k) = aligned p M lines (suc k) n
 
+  -- band m is a(m) - a(m-1), at m = i + 1
   pub band-rises : (i : ℕ) → i < M → heldBack p M lines (suc i) n ≡ rising (suc i) -ℤ rising i
   unfolding rising
   band-rises zero h = lowest-is ∙ eq-by (var (aligned p M lines 1 n)) (var (aligned p M lines 1 n) ⊖ lit 0) (omega arith)
   band-rises (suc k) h = held-back-is k h
 
--- the page's gain sum, by differences of neighbouring gains
+-- the gain sum by differences of neighbouring gains
 pub aligned-form : (p : Prototype) (M : ℕ) (g : ℕ → ℕ → ℤ) (lines : ℕ → Signal) (n : ℕ) → 1 ≤ M →
     gainSum p M g lines n ≡ alignedSum p M (g n) lines n
 unfolding gainSum alignedSum rising

@@ -1,5 +1,5 @@
--- The aligned sum is linear in the lines, and no larger than the top line times its gain and each line below times the
--- difference of its two gains. It holds of any lines. Assumes nothing.
+-- The aligned sum is linear in the lines; and where |line k| ≤ c(k), it is at most |g(M)|·c(M) plus the sum over k = 1..M-1 of
+-- |g(k+1) - g(k)|·c(k). It holds of any lines. Assumes nothing.
 use mathlib.Core.Path.{_≡_, sym, ap, ap₂, _∙_}
 use Prim.Native.Nat.{ℕ, suc, _+_, _-_, _*_, _^_, _≤_}
 use native.Mathlib.Nat.{le-refl, le-trans, add-le-add, mul-le-mul-left}
@@ -52,7 +52,7 @@ module _ (p : Prototype) (M : ℕ) (g : ℕ → ℤ) (n : ℕ) where
           ap (λ (z : ℤ). h *ℤ z) (back-- (a k) (b k) n (p .centre * (2 ^ (M - 1) - 2 ^ (M - k)))) ∙
           *ℤ-distribˡ--ℤ h (aligned p M a k n) (aligned p M b k n)
 
-  -- lines no larger than c: the top line enters with its own gain, line k with the difference of its two gains
+  -- the top line enters with its own gain, line k below it with the difference of two gains
   pub aligned-sum-abs : (a : ℕ → Signal) (c : ℕ → ℕ) → 1 ≤ M → ((k i : ℕ) → 1 ≤ k → k ≤ M → natAbs (a k i) ≤ c k) →
       natAbs (alignedSum p M g a n) ≤
       natAbs (g M) * c M + sumℕ (M - 1) (λ i. natAbs (g (suc (suc i)) -ℤ g (suc i)) * c (suc i))

@@ -1,7 +1,7 @@
 -- 01, Exact output and allowance: a line is no further from the exact line than its allowance E. Assumes nothing.
 use mathlib.Core.Path.{_≡_, ap, _∙_}
 use Prim.Native.Nat.{ℕ, zero, suc, _+_, _-_, _*_, _/_, _^_, _≤_}
-use native.Mathlib.Nat.{le-refl, le-trans, add-le-add, mul-le-mul-left, pow-succ', mul-comm, mul-zero}
+use native.Mathlib.Nat.{le-refl, le-trans, add-le-add, mul-le-mul-left, pow-succ', mul-comm}
 use native.Mathlib.Omega.{arith}
 use lib.Pow.{pow-add}
 use lib.IntN.{ℤ, pos, natAbs, _+ℤ_, _-ℤ_, _*ℤ_}
@@ -15,7 +15,7 @@ use Rattle.tree.specs.Tree.{weighted, lowPass, level, line}
 use Rattle.tree.specs.Exact.{commonScale, exactLevel, onWhole, allowanceAt, allowance}
 use Rattle.tree.proofs.Weighted.{weighted--, weighted-*, weighted-abs}
 
--- one low-pass: what is within A of the exact line, on the scale S, is afterwards within (magnitudes)·A and half a step
+-- one low-pass, s to s' and e to e': where |S·s - e| ≤ A up to n, |100,000·S·s' - e'| ≤ magnitudes·A + 50,000·S at n
 low-pass-near : (p : Prototype) (L S A : ℕ) (s e : Signal) (n : ℕ) → ((k : ℕ) → k ≤ n → natAbs (pos S *ℤ s k -ℤ e k) ≤ A) →
     natAbs (pos (scale * S) *ℤ lowPass p L s n -ℤ weighted p L e n) ≤ magnitudes p * A + scale / 2 * S
 unfolding lowPass
@@ -47,7 +47,7 @@ low-pass-near p L S A s e n near =
         (weighted-abs p L (λ k. pos S *ℤ s k -ℤ e k) n A near)
 
 module _ (p : Prototype) (x : Signal) where
-  -- level j, on the scale 100,000^j of the exact level
+  -- the rounded level j, brought to the exact level's scale 100,000^j, is within its allowance
   pub level-near : (j n : ℕ) → natAbs (pos (scale ^ j) *ℤ level p j x n -ℤ exactLevel p j x n) ≤ allowanceAt p j
   unfolding level exactLevel allowanceAt
   level-near zero n = rw (eq-by (lit 1 ⊗ var (x n) ⊖ var (x n)) (lit 0) (omega arith)) (le-refl 0)
@@ -55,7 +55,7 @@ module _ (p : Prototype) (x : Signal) where
       rw (pow-succ' scale j)
       (low-pass-near p (2 ^ j) (scale ^ j) (allowanceAt p j) (level p j x) (exactLevel p j x) n (λ k _. level-near j k))
 
-  -- line k on the common scale P
+  -- the same of line k, on the common scale P
   pub line-near : (M k n : ℕ) → 1 ≤ k → k ≤ M →
       natAbs (pos (commonScale M) *ℤ line p M x k n -ℤ onWhole p M x k n) ≤ allowance p M k * scale ^ (k - 1)
   line-near M k n l h =
@@ -80,11 +80,3 @@ module _ (p : Prototype) (x : Signal) where
       shared =
           eq-by (lit (a * b) ⊗ var (line p M x k n) ⊖ lit a ⊗ var (exactLevel p (M - k) x n))
           (lit a ⊗ (lit b ⊗ var (line p M x k n) ⊖ var (exactLevel p (M - k) x n))) (omega arith)
-
--- "So E(M-1) = 50,000, half a step."
-pub first-allowance : (p : Prototype) (M : ℕ) → 1 ≤ M → allowance p M (M - 1) ≡ 50000
-unfolding allowanceAt
-first-allowance p M some = rw (one-below, mul-zero (magnitudes p))
-  where
-    one-below : M - (M - 1) ≡ 1
-    one-below = omega arith

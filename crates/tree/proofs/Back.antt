@@ -1,4 +1,4 @@
--- The laws of `back`. Assumes nothing.
+-- The laws of `back s n d`: s at n - d, or 0 where that is before the first sample. Assumes nothing.
 use mathlib.Core.Path.{_≡_, refl, sym, ap, _∙_}
 use mathlib.Core.Bool.{Bool, true, false, cond}
 use Prim.Native.Nat.{ℕ, _+_, _-_, _≤_, _<_}
@@ -9,7 +9,7 @@ use lib.Dec.{leb}
 use lib.IntN.{ℤ, pos, natAbs, _-ℤ_, _*ℤ_, *ℤ-zero}
 use Rattle.tree.specs.Signal.{Signal, back}
 
--- ---- which of the two it is
+-- ---- the two cases
 
 pub back-in : (s : Signal) {n d : ℕ} → d ≤ n → back s n d ≡ s (n - d)
 back-in s {n} {d} h = rw (le-leb d n h)
@@ -17,7 +17,7 @@ back-in s {n} {d} h = rw (le-leb d n h)
 pub back-out : (s : Signal) {n d : ℕ} → n < d → back s n d ≡ pos 0
 back-out s {n} {d} h = rw (lt-leb d n h)
 
--- what holds of each of the two, where it is the one, holds of what is read back
+-- to prove P (back s n d): prove P (s (n - d)) where d ≤ n, and P 0 where n < d
 pub back-cases : (s : Signal) (n d : ℕ) (P : ℤ → Type 0) → (d ≤ n → P (s (n - d))) → (n < d → P (pos 0)) → P (back s n d)
 back-cases s n d P inside before = by (leb d n) refl
   where
@@ -25,15 +25,17 @@ back-cases s n d P inside before = by (leb d n) refl
     by true e = inside (leb-true d n e)
     by false e = before (leb-false d n e)
 
--- ---- laws
+-- ---- equations
 
 pub back-zero : (s : Signal) (n : ℕ) → back s n 0 ≡ s n
 back-zero s n = back-in s {n = n} {d = 0} (omega arith) ∙ ap s (sub-zero n)
 
+-- the signal after n does not count
 pub back-ext : {s r : Signal} (n d : ℕ) → ((k : ℕ) → k ≤ n → s k ≡ r k) → back s n d ≡ back r n d
 back-ext {s} {r} n d e =
     back-cases s n d (λ z. z ≡ back r n d) (λ h. e (n - d) (omega arith) ∙ sym (back-in r h)) (λ h. sym (back-out r h))
 
+-- late by a, then by b: late by a + b
 pub back-back : (s : Signal) (n a b : ℕ) → back (λ k. back s k a) n b ≡ back s n (a + b)
 back-back s n a b =
     back-cases (λ k. back s k a) n b (λ z. z ≡ back s n (a + b))
@@ -55,6 +57,7 @@ back-* c s n d = by (leb d n)
     by true = refl
     by false = sym (*ℤ-zero c)
 
--- no larger than the signal up to n
+-- ---- size
+
 pub back-abs : (s : Signal) (n d X : ℕ) → ((k : ℕ) → k ≤ n → natAbs (s k) ≤ X) → natAbs (back s n d) ≤ X
 back-abs s n d X h = back-cases s n d (λ z. natAbs z ≤ X) (λ l. h (n - d) (omega arith)) (λ _. omega arith)

@@ -12,11 +12,11 @@ use Rattle.tree.specs.Tree.{delay, holdBack}
 pub delays : map (delay published) (2 ∷ 3 ∷ 4 ∷ 5 ∷ 6 ∷ 7 ∷ 8 ∷ 9 ∷ 10 ∷ []) ≡ 9 ∷ 27 ∷ 63 ∷ 135 ∷ 279 ∷ 567 ∷ 1143 ∷ 2295 ∷ 4599 ∷ []
 delays = refl
 
--- what is taken from t is at most t: each hold-back is a whole number, for every band but the first
+-- D·(2^(M+1-m) - 1) ≤ t for m = 2..M, so the hold-back t - D·(2^(M+1-m) - 1) is not below 0
 pub hold-back-whole : (p : Prototype) (M m : ℕ) → 2 ≤ m → m ≤ M → p .centre * (2 ^ (M + 1 - m) - 1) ≤ delay p M
 hold-back-whole p M m l h = mul-le-mul-left (p .centre) (omega (arith, pow-mono {i = M + 1 - m} {j = M - 1} (omega arith)))
 
--- and it puts the band on time: what is taken and what is held back make t
+-- so the two add up to t, though `-` on ℕ stops at 0
 pub hold-back-makes-delay : (p : Prototype) (M m : ℕ) → 2 ≤ m → m ≤ M → holdBack p M m + p .centre * (2 ^ (M + 1 - m) - 1) ≡ delay p M
 unfolding holdBack
 hold-back-makes-delay p M zero l h = absurd (omega arith)

@@ -1,14 +1,14 @@
 -- 01, Exact output and allowance: "the distance between 4,096·P times the output and 4,096·P times the exact output is at most
 -- 2,048·P plus the sum over k = 1..M-1 of |gain(k+1) - gain(k)|·E(k)·100,000^(k-1)". Assumes nothing.
 use mathlib.Core.Path.{_≡_, refl}
-use Prim.Native.Nat.{ℕ, suc, _+_, _-_, _*_, _^_, _≤_, _<_}
+use Prim.Native.Nat.{ℕ, suc, _+_, _-_, _*_, _/_, _^_, _≤_, _<_}
 use native.Mathlib.Nat.{le-refl, le-trans, add-le-add, mul-le-mul-left, mul-comm, sub-self, mul-zero, zero-mul, zero-add, add-zero, one-le-pow}
 use native.Mathlib.Numerals.{sub-one}
 use native.Mathlib.Omega.{arith}
 use lib.IntN.{ℤ, pos, natAbs, _-ℤ_, _*ℤ_}
 use lib.Signed.{_≤ℤ_, leZ-yes}
+use Rattle.answers.specs.Unit.{leastSample, mostSample, unity}
 use Rattle.whole.specs.Nearest.{nearest}
-use Rattle.whole.specs.Limit.{least24, most24}
 use Rattle.whole.specs.Sum.{sumℕ}
 use Rattle.whole.proofs.Signed.{var, lit, _⊖_, _⊗_, eq-by}
 use Rattle.whole.proofs.Ring.{minus-self}
@@ -26,7 +26,7 @@ use Rattle.tree.proofs.AlignedSum.{aligned-sum-*, aligned-sum--, aligne
 use Rattle.tree.proofs.Allowance.{line-near}
 
 module _ (p : Prototype) (M : ℕ) (g : ℕ → ℕ → ℤ) (x : Signal) (n : ℕ) (some : 1 ≤ M) where
-  -- before any rounding of the sum: P times the gain sum and the exact sum
+  -- P times the gain sum, before it is rounded, is within the slack of the exact sum
   pub sum-near : natAbs (pos (commonScale M) *ℤ gainSum p M g (line p M x) n -ℤ exactSum p M g x n) ≤ slack p M g n
   unfolding slack allowanceAt
   sum-near =
@@ -53,12 +53,12 @@ module _ (p : Prototype) (M : ℕ) (g : ℕ → ℕ → ℤ) (x : Signal) (n : �
 
   -- "With P = 100,000^(M-1)"
   pub distance :
-      natAbs (pos (4096 * commonScale M) *ℤ output p M g x n -ℤ exactOutput p M g x n) ≤ 2048 * commonScale M + slack p M g n
+      natAbs (pos (unity * commonScale M) *ℤ output p M g x n -ℤ exactOutput p M g x n) ≤ unity / 2 * commonScale M + slack p M g n
   unfolding output exactOutput
   distance =
-      rw (← (limit-scale (4096 * P) some-P least24 most24 y))
-      (le-trans (limit-near (pos (4096 * P) *ℤ least24) (pos (4096 * P) *ℤ most24) ends (exactSum p M g x n) (pos (4096 * P) *ℤ y))
-      (le-trans (abs-via (pos (4096 * P) *ℤ y) (pos P *ℤ z) (exactSum p M g x n)) (add-le-add once sum-near)))
+      rw (← (limit-scale (unity * P) some-P leastSample mostSample y))
+      (le-trans (limit-near (pos (unity * P) *ℤ leastSample) (pos (unity * P) *ℤ mostSample) ends (exactSum p M g x n) (pos (unity * P) *ℤ y))
+      (le-trans (abs-via (pos (unity * P) *ℤ y) (pos P *ℤ z) (exactSum p M g x n)) (add-le-add once sum-near)))
     where
       P : ℕ
       P = commonScale M
@@ -67,19 +67,19 @@ module _ (p : Prototype) (M : ℕ) (g : ℕ → ℕ → ℤ) (x : Signal) (n : �
       z = gainSum p M g (line p M x) n
 
       y : ℤ
-      y = nearest 4096 z
+      y = nearest unity z
 
-      some-P : 0 < 4096 * P
+      some-P : 0 < unity * P
       some-P = omega (arith, one-le-pow (M - 1) scale (omega arith))
 
-      ends : (pos (4096 * P) *ℤ least24) ≤ℤ (pos (4096 * P) *ℤ most24)
-      ends = *ℤ-monoˡ-≤ℤ (4096 * P) {a = least24} {b = most24} (leZ-yes tt)
+      ends : (pos (unity * P) *ℤ leastSample) ≤ℤ (pos (unity * P) *ℤ mostSample)
+      ends = *ℤ-monoˡ-≤ℤ (unity * P) {a = leastSample} {b = mostSample} (leZ-yes tt)
 
       -- the one rounding, by 4,096
-      once : natAbs (pos (4096 * P) *ℤ y -ℤ pos P *ℤ z) ≤ 2048 * P
+      once : natAbs (pos (unity * P) *ℤ y -ℤ pos P *ℤ z) ≤ unity / 2 * P
       once =
-          rw (eq-by (lit (4096 * P) ⊗ var y ⊖ lit P ⊗ var z) (lit P ⊗ (lit 4096 ⊗ var y ⊖ var z)) (omega arith), abs-*ℤ (pos P) (pos 4096 *ℤ y -ℤ z), mul-comm 2048 P)
-          (mul-le-mul-left P (omega (arith, nearest-error 4096 (omega arith) z)))
+          rw (eq-by (lit (unity * P) ⊗ var y ⊖ lit P ⊗ var z) (lit P ⊗ (lit unity ⊗ var y ⊖ var z)) (omega arith), abs-*ℤ (pos P) (pos unity *ℤ y -ℤ z), mul-comm (unity / 2) P)
+          (mul-le-mul-left P (omega (arith, nearest-error unity (omega arith) z)))
 
   -- ---- equal gains
 
@@ -91,6 +91,6 @@ module _ (p : Prototype) (M : ℕ) (g : ℕ → ℕ → ℤ) (x : Signal) (n : �
         (λ i h. rw (equal (suc (suc i)) (omega arith) (omega arith), equal (suc i) (omega arith) (omega arith), minus-self G)
         (zero-mul (allowance p M (suc i) * scale ^ i)))
 
-    -- they leave nothing but the one rounding: half a step
-    pub half-a-step : natAbs (pos (4096 * commonScale M) *ℤ output p M g x n -ℤ exactOutput p M g x n) ≤ 2048 * commonScale M
-    half-a-step = rw (no-slack, add-zero (2048 * commonScale M)) at distance
+    -- equal gains have no slack, so the one rounding is all that is left: half a step
+    pub half-a-step : natAbs (pos (unity * commonScale M) *ℤ output p M g x n -ℤ exactOutput p M g x n) ≤ unity / 2 * commonScale M
+    half-a-step = rw (no-slack, add-zero (unity / 2 * commonScale M)) at distance

@@ -1,11 +1,12 @@
 -- 01, demand 3: "Equal gains: that gain times the input, late by the stated delay, rounded once, limited." Assumes nothing.
 use mathlib.Core.Path.{_≡_, ap, ap₂, _∙_}
-use Prim.Native.Nat.{ℕ, suc, _+_, _-_, _*_, _^_, _≤_}
+use Prim.Native.Nat.{ℕ, suc, _-_, _*_, _^_, _≤_}
 use native.Mathlib.Nat.{sub-self}
 use native.Mathlib.Omega.{arith}
 use lib.IntN.{ℤ, _+ℤ_, _-ℤ_, _*ℤ_, +ℤ-idr, zero-*ℤ}
+use Rattle.answers.specs.Unit.{leastSample, mostSample, unity}
 use Rattle.whole.specs.Nearest.{nearest}
-use Rattle.whole.specs.Limit.{limit, least24, most24}
+use Rattle.whole.specs.Limit.{limit}
 use Rattle.whole.proofs.Ring.{minus-self}
 use Rattle.whole.proofs.Sums.{sum-none}
 use Rattle.tree.specs.Prototype.{Prototype}
@@ -31,6 +32,6 @@ module _ (p : Prototype) (M : ℕ) (G : ℤ) (g : ℕ → ℕ → ℤ) (x : Sign
       zero-*ℤ (aligned p M (line p M x) (suc i) n))) ∙
       +ℤ-idr (G *ℤ back x n (delay p M))
 
-  pub equal-gains : output p M g x n ≡ limit least24 most24 (nearest 4096 (G *ℤ back x n (delay p M)))
+  pub equal-gains : output p M g x n ≡ limit leastSample mostSample (nearest unity (G *ℤ back x n (delay p M)))
   unfolding output
-  equal-gains = ap (λ (z : ℤ). limit least24 most24 (nearest 4096 z)) equal-gain-sum
+  equal-gains = ap (λ (z : ℤ). limit leastSample mostSample (nearest unity z)) equal-gain-sum

@@ -1,25 +1,27 @@
 -- Demand 3, for 01's table: an output is "never past 302 steps" from the exact output. 01, Exact output and allowance: "For ten
 -- bands E(1) is under 25 steps, and all nine together are under 75.4." Assumes nothing.
 use mathlib.Core.Bool.{Bool}
-use Prim.Native.Nat.{ℕ, suc, _+_, _-_, _*_, _^_, _≤_, _<_}
+use Prim.Native.Nat.{ℕ, suc, _+_, _-_, _*_, _/_, _^_, _≤_, _<_}
 use native.Mathlib.Nat.{le-trans, add-le-add, le-refl, mul-le-mul-right, mul-comm}
 use native.Mathlib.Omega.{arith}
 use lib.Dec.{leb, leb→le, lit<}
 use lib.IntN.{ℤ, pos, natAbs, _-ℤ_, _*ℤ_}
+use Rattle.answers.specs.Unit.{largestGain, unity}
 use Rattle.whole.specs.Sum.{sumℕ}
 use Rattle.whole.proofs.Magnitude.{abs-between}
 use Rattle.whole.proofs.Sums.{sumℕ-mono, sumℕ-*ʳ}
 use Rattle.tree.specs.Prototype.{Prototype, scale, published}
 use Rattle.tree.specs.Signal.{Signal}
-use Rattle.tree.specs.Edges.{largestGain, IsGain, AllowedGains}
+use Rattle.tree.specs.Gains.{IsGain, AllowedGains}
 use Rattle.tree.specs.Tree.{output}
 use Rattle.tree.specs.Exact.{farthest, commonScale, exactOutput, allowanceAt, allowance, slack, together}
-use Rattle.tree.proofs.Counts.{every, for-each-count}
+use Rattle.tree.proofs.EveryNumber.{every, for-each-count}
 use Rattle.tree.proofs.Distance.{distance}
 
--- ---- over any prototype: allowed gains take no more than all allowances together, times the largest gain
+-- ---- any prototype
 
 module _ (p : Prototype) (M : ℕ) (g : ℕ → ℕ → ℤ) (n : ℕ) (allowed : AllowedGains M g n) where
+  -- two allowed gains differ by at most the largest gain
   pub slack-within : slack p M g n ≤ together p M * largestGain
   unfolding slack together
   slack-within =
@@ -35,12 +37,12 @@ module _ (p : Prototype) (M : ℕ) (g : ℕ → ℕ → ℤ) (n : ℕ) (allowed 
           let b : IsGain (g n (suc i)) = allowed (suc i) (omega arith) (omega arith) in
           abs-between largestGain (a .least) (a .most) (b .least) (b .most)
 
-  -- so a number F of steps that holds the one rounding and all allowances together is never passed
-  pub never-past : (F : ℕ) → 2048 * commonScale M + together p M * largestGain ≤ F * (4096 * commonScale M) → 1 ≤ M → (x : Signal) →
-      natAbs (pos (4096 * commonScale M) *ℤ output p M g x n -ℤ exactOutput p M g x n) ≤ F * (4096 * commonScale M)
-  never-past F holds some x = le-trans (distance p M g x n some) (le-trans (add-le-add (le-refl (2048 * commonScale M)) slack-within) holds)
+  -- if half a step and the largest slack are at most F steps, then the output is at most F steps from the exact output
+  pub never-past : (F : ℕ) → unity / 2 * commonScale M + together p M * largestGain ≤ F * (unity * commonScale M) → 1 ≤ M → (x : Signal) →
+      natAbs (pos (unity * commonScale M) *ℤ output p M g x n -ℤ exactOutput p M g x n) ≤ F * (unity * commonScale M)
+  never-past F holds some x = le-trans (distance p M g x n some) (le-trans (add-le-add (le-refl (unity / 2 * commonScale M)) slack-within) holds)
 
--- ---- 01's table
+-- ---- the published table
 
 -- "For ten bands E(1) is under 25 steps"
 pub lowest-under-25 : allowance published 10 1 < 25 * commonScale 10
@@ -52,18 +54,18 @@ pub together-under-75-4 : 10 * together published 10 < 754 * commonScale 10
 unfolding together allowanceAt sumℕ
 together-under-75-4 = lit< tt
 
--- the test at one count: 302 steps hold the one rounding and all allowances together, times the largest gain
+-- the test for M bands: half a step and the largest slack are at most 302 steps
 abbrev enough : ℕ → Bool
-enough M = leb (2048 * commonScale M + together published M * largestGain) (farthest * (4096 * commonScale M))
+enough M = leb (unity / 2 * commonScale M + together published M * largestGain) (farthest * (unity * commonScale M))
 
 pub within-302 : (M : ℕ) → 2 ≤ M → M ≤ 10 →
-    2048 * commonScale M + together published M * largestGain ≤ farthest * (4096 * commonScale M)
+    unity / 2 * commonScale M + together published M * largestGain ≤ farthest * (unity * commonScale M)
 unfolding every together allowanceAt sumℕ
 within-302 M l h =
-    leb→le (2048 * commonScale M + together published M * largestGain) (farthest * (4096 * commonScale M))
+    leb→le (unity / 2 * commonScale M + together published M * largestGain) (farthest * (unity * commonScale M))
     (for-each-count enough tt M l h)
 
 pub never-past-302 : (M : ℕ) → 2 ≤ M → M ≤ 10 → (g : ℕ → ℕ → ℤ) (x : Signal) (n : ℕ) → AllowedGains M g n →
-    natAbs (pos (4096 * commonScale M) *ℤ output published M g x n -ℤ exactOutput published M g x n) ≤
-    farthest * (4096 * commonScale M)
+    natAbs (pos (unity * commonScale M) *ℤ output published M g x n -ℤ exactOutput published M g x n) ≤
+    farthest * (unity * commonScale M)
 never-past-302 M l h g x n allowed = never-past published M g n allowed farthest (within-302 M l h) (omega arith) x

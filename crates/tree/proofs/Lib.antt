@@ -1,7 +1,7 @@
 -- The facts of the tree, by subject. Each is proved once over M and, where it is no fact of 01's table, over the prototype.
 pub mod Table
 pub mod Back
-pub mod Gaps
+pub mod AfterOneSample
 pub mod Lines
 pub mod Delays
 pub mod Aligned
@@ -11,7 +11,7 @@ pub mod Weighted
 pub mod Allowance
 pub mod AlignedSum
 pub mod Distance
-pub mod Counts
+pub mod EveryNumber
 pub mod Farthest
-pub mod Reach
+pub mod NeverLimited
 pub mod NoCrack

@@ -28,19 +28,22 @@ module _ (p : Prototype) where
       steps : M - k ≡ suc (M - suc k)
       steps = omega arith
 
-  -- ---- a line at n depends only on the signal up to n
+  -- ---- no look ahead
 
+  -- two signals that agree up to n have the same weighted sum at n
   pub weighted-upto : (L : ℕ) {s r : Signal} (n : ℕ) → ((k : ℕ) → k ≤ n → s k ≡ r k) → weighted p L s n ≡ weighted p L r n
   unfolding weighted
   weighted-upto L n e = sum-ext (taps p) (λ i _. ap (λ (z : ℤ). coefficient p i *ℤ z) (back-ext n (L * i) e))
 
+  -- .. and the same level at n
   pub level-upto : (j : ℕ) {x y : Signal} (n : ℕ) → ((k : ℕ) → k ≤ n → x k ≡ y k) → level p j x n ≡ level p j y n
   unfolding level lowPass
   level-upto zero n e = e n (omega arith)
   level-upto (suc j) n e = ap (nearest scale) (weighted-upto (2 ^ j) n (λ k h. level-upto j k (λ i l. e i (omega arith))))
 
-  -- ---- a line of a signal that is 0 before n is 0 before n
+  -- ---- silence
 
+  -- a signal that is 0 up to n has the weighted sum 0 at n
   pub weighted-silent : (L : ℕ) {s : Signal} (n : ℕ) → ((k : ℕ) → k ≤ n → s k ≡ pos 0) → weighted p L s n ≡ pos 0
   unfolding weighted
   weighted-silent L {s} n e =
@@ -48,6 +51,7 @@ module _ (p : Prototype) where
       (λ i _. ap (λ (z : ℤ). coefficient p i *ℤ z)
       (back-cases s n (L * i) (λ z. z ≡ pos 0) (λ h. e (n - L * i) (omega arith)) (λ _. refl)) ∙ *ℤ-zero (coefficient p i))
 
+  -- a level of a signal that is 0 before n is 0 before n
   pub level-silent : (j : ℕ) {x : Signal} (n : ℕ) → ((k : ℕ) → k < n → x k ≡ pos 0) → (k : ℕ) → k < n → level p j x k ≡ pos 0
   unfolding level lowPass
   level-silent zero n e k h = e k h

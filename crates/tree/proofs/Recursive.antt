@@ -16,7 +16,7 @@ use Rattle.tree.specs.Forms.{treeDelay, treeSum, aligned}
 use Rattle.tree.proofs.Back.{back-zero}
 use Rattle.tree.proofs.Aligned.{rising, band-rises}
 
--- ---- the delays of the tree below are those of the page, aligned already
+-- ---- delays
 
 -- with b + 1 bands left after j low-passes, 2^j·(2^b - 1) is 2^(M-1) - 2^j
 stretch-is : (b j M : ℕ) → suc b + j ≡ M → 2 ^ j * (2 ^ (suc b - 1) - 1) ≡ 2 ^ (M - 1) - 2 ^ (M - suc b)
@@ -33,6 +33,7 @@ stretch-is b j M e =
     M-is = omega arith
 
 module _ (p : Prototype) (x : Signal) (n : ℕ) where
+  -- the tree of b + 1 bands below level j delays its line by what aligns it
   pub aligned-level : (b j M : ℕ) → suc b + j ≡ M →
       back (level p j x) n (treeDelay p (suc b) (2 ^ j)) ≡ aligned p M (line p M x) (suc b) n
   aligned-level b j M e =
@@ -41,7 +42,7 @@ module _ (p : Prototype) (x : Signal) (n : ℕ) where
       j-is : j ≡ M - suc b
       j-is = omega arith
 
-  -- the tree of b + 1 bands below level j is the page's lowest b + 1 terms
+  -- its gain sum is that of bands 1 to b + 1, each as a(m) - a(m-1) (`Aligned`)
   pub tree-below : (g : ℕ → ℤ) (b j M : ℕ) → suc b + j ≡ M →
       treeSum p (suc b) (2 ^ j) (level p j x) g n ≡
       sum (suc b) (λ i. g (suc i) *ℤ (rising p M (line p M x) n (suc i) -ℤ rising p M (line p M x) n i))
@@ -59,7 +60,7 @@ module _ (p : Prototype) (x : Signal) (n : ℕ) where
       (ap₂ (λ (y z : ℤ). g (suc (suc b)) *ℤ (y -ℤ z)) (aligned-level (suc b) j M e)
       (ap (λ (L : ℕ). back (level p (suc j) x) n (treeDelay p (suc b) L)) (sym (pow-succ' 2 j)) ∙ aligned-level b (suc j) M (omega arith)))
 
--- the page's gain sum is the tree's, from the input at stretch 1
+-- the gain sum is the recursive tree's, from the input at stretch 1
 pub recursive-form : (p : Prototype) (M : ℕ) (g : ℕ → ℕ → ℤ) (x : Signal) (n : ℕ) → 1 ≤ M →
     gainSum p M g (line p M x) n ≡ treeSum p M 1 x (g n) n
 unfolding gainSum level

@@ -1,7 +1,8 @@
 -- 01, Exact output and allowance, over any prototype p.
 use Prim.Native.Nat.{ℕ, zero, suc, _+_, _-_, _*_, _/_, _^_}
 use lib.IntN.{ℤ, pos, natAbs, _-ℤ_, _*ℤ_}
-use Rattle.whole.specs.Limit.{limit, least24, most24}
+use Rattle.answers.specs.Unit.{leastSample, mostSample, unity}
+use Rattle.whole.specs.Limit.{limit}
 use Rattle.whole.specs.Sum.{sumℕ}
 use Rattle.tree.specs.Prototype.{Prototype, scale, magnitudes}
 use Rattle.tree.specs.Signal.{Signal}
@@ -35,7 +36,7 @@ module _ (p : Prototype) where
 
   -- ".. limited to the sample range": 4,096·P times the exact output
   unfoldable pub exactOutput : ℕ → (ℕ → ℕ → ℤ) → Signal → Signal
-  exactOutput M g x n = limit (pos (4096 * commonScale M) *ℤ least24) (pos (4096 * commonScale M) *ℤ most24) (exactSum M g x n)
+  exactOutput M g x n = limit (pos (unity * commonScale M) *ℤ leastSample) (pos (unity * commonScale M) *ℤ mostSample) (exactSum M g x n)
 
   -- E by level: "E(M) = 0; E(k-1) = 140,240·E(k) + 50,000·100,000^(M-k), on the scale of line k-1"
   unfoldable pub allowanceAt : ℕ → ℕ

@@ -1,6 +1,6 @@
--- The tree put otherwise, over any prototype p: 01, The tree: "the low line is itself the same tree with one band fewer and
+-- The gain sum in two other forms, over any prototype p. 01, The tree: "the low line is itself the same tree with one band fewer and
 -- the stretch doubled". The gains are those of one sample, `g m` for band m.
-use Prim.Native.Nat.{ℕ, zero, suc, _+_, _-_, _*_, _^_}
+use Prim.Native.Nat.{ℕ, zero, suc, _-_, _*_, _^_}
 use lib.IntN.{ℤ, pos, _+ℤ_, _-ℤ_, _*ℤ_}
 use Rattle.whole.specs.Sum.{sum}
 use Rattle.tree.specs.Prototype.{Prototype}

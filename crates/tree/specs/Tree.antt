@@ -1,8 +1,9 @@
 -- 01, The tree, over any prototype p. Bands are counted from 1, the lowest; the gain of band m at sample n is `g n m`.
 use Prim.Native.Nat.{ℕ, zero, suc, _+_, _-_, _*_, _^_}
 use lib.IntN.{ℤ, pos, _-ℤ_, _*ℤ_}
+use Rattle.answers.specs.Unit.{leastSample, mostSample, unity}
 use Rattle.whole.specs.Nearest.{nearest}
-use Rattle.whole.specs.Limit.{limit, least24, most24}
+use Rattle.whole.specs.Limit.{limit}
 use Rattle.whole.specs.Sum.{sum}
 use Rattle.tree.specs.Prototype.{Prototype, scale, coefficient, taps}
 use Rattle.tree.specs.Signal.{Signal, back}
@@ -50,4 +51,4 @@ module _ (p : Prototype) where
 
   -- ".. divided by 4,096, taken to the nearest whole number with the same tie rule, then limited to the sample range"
   unfoldable pub output : ℕ → (ℕ → ℕ → ℤ) → Signal → Signal
-  output M g x n = limit least24 most24 (nearest 4096 (gainSum M g (line M x) n))
+  output M g x n = limit leastSample mostSample (nearest unity (gainSum M g (line M x) n))

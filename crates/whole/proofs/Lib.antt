@@ -1,4 +1,4 @@
--- The laws that crates above cite, by subject. `Signed` settles a linear fact; the others are named laws.
+-- The laws of signed whole numbers, by subject, and below them (from `Rounded` on) what the code asks.
 pub mod Signed
 pub mod Ring
 pub mod Order

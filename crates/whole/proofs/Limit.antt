@@ -1,22 +1,23 @@
--- The laws of `limit`. The ends are variables; the 24-bit and the 32-bit ends are instances. Assumes nothing.
+-- The laws of `limit`, over any two ends; then at the ends of a sample and of a place. Assumes nothing.
 use mathlib.Core.Path.{_≡_, refl}
 use mathlib.Core.Bool.{Bool, true, false, cond}
-use Prim.Native.Nat.{ℕ, _+_, _*_, _≤_, _<_, _^_}
+use Prim.Native.Nat.{ℕ, _+_, _≤_, _<_, _^_}
 use native.Mathlib.Nat.{le-refl, mul-le-mul-left, mul-lt-mul-of-pos-left}
 use lib.Dec.{T}
 use native.Mathlib.Omega.{arith}
 use lib.IntN.{ℤ, pos, natAbs, _-ℤ_, _*ℤ_}
-use lib.Signed.{ltZ, _≤ℤ_, _<ℤ_, ≤ℤ-refl, leZ-yes}
+use lib.Signed.{ltZ, _≤ℤ_, _<ℤ_, ≤ℤ-refl}
 use mir.Syntax.{w32}
 use mir.Val.{SFits}
 use mir.Facts.{sfits-lit}
-use Rattle.whole.specs.Limit.{limit, least24, most24, least32, most32}
+use Rattle.answers.specs.Unit.{leastSample, mostSample, leastPlace, mostPlace}
+use Rattle.whole.specs.Limit.{limit}
 use Rattle.whole.proofs.Signed.{up, down, var, lit, _⊖_, _⊗_, Near, eq-by, le-by, lt-by, abs-by, abs-of, mag-by, mag-of, le-of, lt-of, read-le, ltZ-yes, ltZ-no, signed}
 use Rattle.whole.proofs.Magnitude.{abs-sym}
 
--- ---- which of the three it is
+-- ---- the three cases
 
--- what holds of each of the three, where it is the one, holds of the limited number
+-- to prove P (limit lo hi z): prove P lo where z < lo, P hi where hi < z, and P z where lo ≤ z ≤ hi
 pub limit-cases : (lo hi z : ℤ) (P : ℤ → Type 0) → (z <ℤ lo → P lo) → (hi <ℤ z → P hi) → (lo ≤ℤ z → z ≤ℤ hi → P z) → P (limit lo hi z)
 limit-cases lo hi z P below above within = outer (ltZ z lo) refl
   where
@@ -28,7 +29,7 @@ limit-cases lo hi z P below above within = outer (ltZ z lo) refl
     outer true e = below (lt-by (var z) (var lo) (ltZ-yes z lo e))
     outer false e = inner (ltZ hi z) refl (le-by (var lo) (var z) (ltZ-no z lo e))
 
--- ---- in range, and unmoved there
+-- ---- range
 
 pub limit-least : (lo hi z : ℤ) → lo ≤ℤ hi → lo ≤ℤ limit lo hi z
 limit-least lo hi z o = limit-cases lo hi z (λ w. lo ≤ℤ w) (λ _. ≤ℤ-refl lo) (λ _. o) (λ l _. l)
@@ -41,7 +42,7 @@ limit-id lo hi z l h =
     limit-cases lo hi z (λ w. w ≡ z) (λ k. eq-by (var lo) (var z) (omega signed)) (λ k. eq-by (var hi) (var z) (omega signed))
     (λ _ _. refl)
 
--- ---- monotone, and two numbers move no further apart
+-- ---- monotone
 
 pub limit-mono : (lo hi : ℤ) → lo ≤ℤ hi → {y z : ℤ} → y ≤ℤ z → limit lo hi y ≤ℤ limit lo hi z
 limit-mono lo hi o {y} {z} k =
@@ -50,7 +51,9 @@ limit-mono lo hi o {y} {z} k =
     (λ _ d. le-by (var hi) (var z) (omega signed)))
     (λ l h. limit-cases lo hi z (λ w. y ≤ℤ w) (λ c. le-by (var y) (var lo) (omega signed)) (λ _. h) (λ _ _. k))
 
--- one side of the distance, for the larger number first
+-- ---- distance of two limited numbers
+
+-- limit z - limit y ≤ |z - y|; with y and z exchanged it bounds the distance from both sides
 gap : (lo hi : ℤ) → lo ≤ℤ hi → (y z : ℤ) → (limit lo hi z -ℤ limit lo hi y) ≤ℤ pos (natAbs (z -ℤ y))
 gap lo hi o y z =
     limit-cases lo hi y (λ w. (limit lo hi z -ℤ w) ≤ℤ pos d)
@@ -84,7 +87,7 @@ limit-near lo hi o y z =
     b : ℤ
     b = limit lo hi y
 
--- ---- a limited number's multiple is the multiple, limited to the ends' multiples
+-- ---- multiples
 
 true-of : (t : Bool) → T t → t ≡ true
 true-of true _ = refl
@@ -105,6 +108,7 @@ ltZ-scale k h a b = by (ltZ a b) refl
         false-of (ltZ (pos k *ℤ a) (pos k *ℤ b))
         (λ t. absurd (omega (arith, mul-le-mul-left k (ltZ-no a b e), lt-of (lit k ⊗ var a) (lit k ⊗ var b) (record { lt = t }))))
 
+-- limiting k·z to k·lo and k·hi is k times the limited z
 pub limit-scale : (k : ℕ) → 0 < k → (lo hi z : ℤ) → limit (pos k *ℤ lo) (pos k *ℤ hi) (pos k *ℤ z) ≡ pos k *ℤ limit lo hi z
 limit-scale k h lo hi z = rw (ltZ-scale k h z lo, ltZ-scale k h hi z) (by (ltZ z lo) (ltZ hi z))
   where
@@ -113,28 +117,20 @@ limit-scale k h lo hi z = rw (ltZ-scale k h z lo, ltZ-scale k h hi z) (by (ltZ z
     by false true = refl
     by false false = refl
 
--- ---- the 24-bit and the 32-bit ends
+-- ---- a sample's ends and a place's
 
-pub limit24-abs : (z : ℤ) → natAbs (limit least24 most24 z) ≤ 8388608
-limit24-abs z =
-    abs-by (var a) 8388608 (omega (arith, read-le a most24 (limit-most least24 most24 z (leZ-yes tt))))
-    (omega (arith, read-le least24 a (limit-least least24 most24 z (leZ-yes tt))))
-  where
-    a : ℤ
-    a = limit least24 most24 z
-
-pub limit24-fits : (z : ℤ) → SFits w32 (limit least24 most24 z)
+pub limit24-fits : (z : ℤ) → SFits w32 (limit leastSample mostSample z)
 limit24-fits z =
-    limit-cases least24 most24 z (SFits w32) (λ _. sfits-lit tt) (λ _. sfits-lit tt)
-    (λ l h. record { sfits = mag-by (var z) (2 ^ 31) (omega (arith, read-le z most24 h)) (omega (arith, read-le least24 z l)) })
+    limit-cases leastSample mostSample z (SFits w32) (λ _. sfits-lit tt) (λ _. sfits-lit tt)
+    (λ l h. record { sfits = mag-by (var z) (2 ^ 31) (omega (arith, read-le z mostSample h)) (omega (arith, read-le leastSample z l)) })
 
-pub limit32-fits : (z : ℤ) → SFits w32 (limit least32 most32 z)
+pub limit32-fits : (z : ℤ) → SFits w32 (limit leastPlace mostPlace z)
 limit32-fits z =
-    limit-cases least32 most32 z (SFits w32) (λ _. sfits-lit tt) (λ _. sfits-lit tt)
-    (λ l h. record { sfits = mag-by (var z) (2 ^ 31) (omega (arith, read-le z most32 h)) (omega (arith, read-le least32 z l)) })
+    limit-cases leastPlace mostPlace z (SFits w32) (λ _. sfits-lit tt) (λ _. sfits-lit tt)
+    (λ l h. record { sfits = mag-by (var z) (2 ^ 31) (omega (arith, read-le z mostPlace h)) (omega (arith, read-le leastPlace z l)) })
 
--- what fits is not moved
-pub limit32-id : {z : ℤ} → SFits w32 z → limit least32 most32 z ≡ z
+-- what fits 32 bits is not moved
+pub limit32-id : {z : ℤ} → SFits w32 z → limit leastPlace mostPlace z ≡ z
 limit32-id {z} f =
-    limit-id least32 most32 z (le-by (var least32) (var z) (omega (arith, mag-of (var z) (2 ^ 31) (f .sfits))))
-    (le-by (var z) (var most32) (omega (arith, mag-of (var z) (2 ^ 31) (f .sfits))))
+    limit-id leastPlace mostPlace z (le-by (var leastPlace) (var z) (omega (arith, mag-of (var z) (2 ^ 31) (f .sfits))))
+    (le-by (var z) (var mostPlace) (omega (arith, mag-of (var z) (2 ^ 31) (f .sfits))))

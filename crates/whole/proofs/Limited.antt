@@ -1,4 +1,4 @@
--- What the code of `limiting` asks, once over the two ends. Assumes nothing.
+-- What the code of `limiting` asks on each of its three ways, proved once over the two ends. Assumes nothing.
 use mathlib.Core.Path.{_≡_, refl}
 use mathlib.Core.Bool.{true, false}
 use Prim.Native.Nat.{_^_}

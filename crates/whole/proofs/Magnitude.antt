@@ -1,12 +1,12 @@
 -- The magnitude |a|, `natAbs`, of a sum, a difference, a negation and a product. Assumes nothing.
 use mathlib.Core.Path.{_≡_, refl, ap, _∙_}
 use mathlib.Core.Logic.{⊎-elim}
-use Prim.Native.Nat.{ℕ, zero, suc, _+_, _*_, _≤_, _<_}
+use Prim.Native.Nat.{ℕ, zero, suc, _+_, _*_, _≤_}
 use native.Mathlib.Nat.{le-refl}
 use native.Mathlib.Omega.{arith}
 use lib.IntN.{ℤ, pos, negsuc, negℤ, natAbs, _+ℤ_, _-ℤ_, _*ℤ_}
 use lib.Signed.{_≤ℤ_, _<ℤ_}
-use Rattle.whole.proofs.Signed.{var, lit, neg, _⊕_, _⊖_, _⊗_, eq-by, le-by, abs-by, abs-of, le-of, lt-of, about, signed}
+use Rattle.whole.proofs.Signed.{var, lit, neg, _⊕_, _⊖_, _⊗_, eq-by, abs-by, abs-of, le-of, lt-of, about, signed}
 use Rattle.whole.proofs.Order.{≤ℤ-total, *ℤ-monoˡ-≤ℤ}
 
 pub abs-+ℤ : (a b : ℤ) → natAbs (a +ℤ b) ≤ natAbs a + natAbs b
@@ -30,25 +30,20 @@ abs-*ℤ (negsuc a) (negsuc b) = refl
 pub abs-sym : (a b : ℤ) → natAbs (a -ℤ b) ≡ natAbs (b -ℤ a)
 abs-sym a b = ap natAbs (eq-by (var a ⊖ var b) (neg (var b ⊖ var a)) (omega arith)) ∙ abs-neg (b -ℤ a)
 
--- by way of b
+-- |a - c| ≤ |a - b| + |b - c|
 pub abs-via : (a b c : ℤ) → natAbs (a -ℤ c) ≤ natAbs (a -ℤ b) + natAbs (b -ℤ c)
 abs-via a b c =
     abs-by (var a ⊖ var c) (natAbs (a -ℤ b) + natAbs (b -ℤ c))
     (omega (arith, abs-of (var a ⊖ var b) (natAbs (a -ℤ b)) (le-refl _), abs-of (var b ⊖ var c) (natAbs (b -ℤ c)) (le-refl _)))
     (omega (arith, abs-of (var a ⊖ var b) (natAbs (a -ℤ b)) (le-refl _), abs-of (var b ⊖ var c) (natAbs (b -ℤ c)) (le-refl _)))
 
-pub abs-zero : (a : ℤ) → natAbs a ≤ 0 → a ≡ pos 0
-abs-zero a h = eq-by (var a) (lit 0) (omega (arith, about a))
-
 -- two numbers from 0 to k are at most k apart
 pub abs-between : (k : ℕ) {a b : ℤ} → pos 0 ≤ℤ a → a ≤ℤ pos k → pos 0 ≤ℤ b → b ≤ℤ pos k → natAbs (a -ℤ b) ≤ k
 abs-between k {a} {b} l h l' h' = abs-by (var a ⊖ var b) k (omega signed) (omega signed)
 
--- a number is within its magnitude, below and above
-pub ≤ℤ-abs : (a : ℤ) → a ≤ℤ pos (natAbs a)
-≤ℤ-abs a = le-by (var a) (lit (natAbs a)) (omega (arith, about a))
+-- ---- signs
 
--- ---- a multiple of y within F of z: where z is beyond F, y has its sign
+-- where k·y is within F of z, and z is above F, y is above 0; where z is below -F, y is below 0
 
 pub above-when-near : (k F : ℕ) (y z : ℤ) → natAbs (pos k *ℤ y -ℤ z) ≤ F → pos F <ℤ z → pos 0 <ℤ y
 above-when-near k F y z near far = ⊎-elim (λ h. h) (λ h. absurd (clash h)) (≤ℤ-total (pos 0) y)

@@ -1,16 +1,24 @@
--- The laws of `nearest`. Assumes nothing.
+-- The laws of `nearest`. It is odd, so a law is proved for numbers from 0 on and carried to the others by `mirror`. Assumes nothing.
 use mathlib.Core.Path.{_≡_, refl, sym, ap, _∙_}
+use mathlib.Core.List.{[], _∷_, map}
 use Prim.Native.Nat.{ℕ, zero, suc, _+_, _*_, _/_, _%_, _≤_, _<_}
 use native.Mathlib.Nat.{div-add-mod, mod-lt, div-eq-of-lt, div-eq-of-lt-le, zero-lt-suc, le-div-iff-mul-le, div-mul-le-self, mul-div-le}
 use native.Mathlib.Omega.{arith}
 use lib.IntN.{ℤ, pos, negsuc, negℤ, natAbs, _-ℤ_, _*ℤ_, negℤ-negℤ}
 use lib.Signed.{_≤ℤ_}
 use Rattle.whole.specs.Nearest.{nearest}
-use Rattle.whole.specs.Limit.{least24, most24}
 use Rattle.whole.proofs.Signed.{up, down, var, lit, neg, _⊖_, _⊗_, eq-by, le-by, abs-by, read-le}
 use Rattle.whole.proofs.Magnitude.{abs-neg}
 
--- the quotient on naturals
+-- ---- values
+
+-- 49,999 and 50,000 over 100,000, and their negatives: a tie goes away from zero
+pub nearest-ties : map (nearest 100000) (pos 49999 ∷ pos 50000 ∷ negsuc 49998 ∷ negsuc 49999 ∷ []) ≡ pos 0 ∷ pos 1 ∷ pos 0 ∷ negsuc 0 ∷ []
+nearest-ties = refl
+
+-- ---- from 0 on
+
+-- nearest d (pos a) is pos (q d a)
 abbrev q : ℕ → ℕ → ℕ
 q d a = (a + d / 2) / d
 
@@ -28,13 +36,13 @@ nearest-neg d (pos zero) = ap pos (q-zero d) ∙ sym (ap (λ (k : ℕ). negℤ (
 nearest-neg d (pos (suc a)) = refl
 nearest-neg d (negsuc a) = sym (negℤ-negℤ (pos ((suc a + d / 2) / d)))
 
--- the negative case as the mirror image, for a proof by the two signs
+-- to prove P z (nearest d z) for every z: prove it from 0 on, and that P z w gives P (-z) (-w)
 mirror : (P : ℤ → ℤ → Type 0) (d : ℕ) → ((a : ℕ) → P (pos a) (pos (q d a))) →
     ((z w : ℤ) → P z w → P (negℤ z) (negℤ w)) → (z : ℤ) → P z (nearest d z)
 mirror P d f g (pos a) = f a
 mirror P d f g (negsuc a) = g (pos (suc a)) (pos ((suc a + d / 2) / d)) (f (suc a))
 
--- ---- the error is at most half a step
+-- ---- the error, at most half a step
 
 pub nearest-error : (d : ℕ) → 0 < d → (z : ℤ) → 2 * natAbs (pos d *ℤ nearest d z -ℤ z) ≤ d
 nearest-error d h z = mirror (λ z w. 2 * natAbs (pos d *ℤ w -ℤ z) ≤ d) d right turned z
@@ -51,7 +59,7 @@ nearest-error d h z = mirror (λ z w. 2 * natAbs (pos d *ℤ w -ℤ z) ≤ d) d 
         rw (eq-by (lit d ⊗ neg (var w) ⊖ neg (var z)) (neg (lit d ⊗ var w ⊖ var z)) (omega arith))
         (rw (abs-neg (pos d *ℤ w -ℤ z)) l)
 
--- the number that is within half a step, and not past a tie toward zero, is the one
+-- k is the nearest if d·k ≤ a + d/2 < d·(k + 1)
 pos-nearest : (d a k : ℕ) → d * k ≤ a + d / 2 → a + d / 2 < d * k + d → nearest d (pos a) ≡ pos k
 pos-nearest d a k l h = ap pos (div-eq-of-lt-le d (omega arith) (omega arith))
 
@@ -78,7 +86,7 @@ nearest-mono d h {y} {z} l = by y z (read-le y z l)
     by (negsuc a) (negsuc b) k =
         le-by (neg (lit (q d (suc a)))) (neg (lit (q d (suc b)))) (omega (arith, q-mono d h (suc b) (suc a) (omega arith)))
 
--- ---- its size
+-- ---- size
 
 pub nearest-abs : (d : ℕ) → 0 < d → (z : ℤ) → 2 * (d * natAbs (nearest d z)) ≤ 2 * natAbs z + d
 nearest-abs d h z = mirror (λ z w. 2 * (d * natAbs w) ≤ 2 * natAbs z + d) d right turned z
@@ -89,21 +97,16 @@ nearest-abs d h z = mirror (λ z w. 2 * (d * natAbs w) ≤ 2 * natAbs z + d) d r
     turned : (z w : ℤ) → 2 * (d * natAbs w) ≤ 2 * natAbs z + d → 2 * (d * natAbs (negℤ w)) ≤ 2 * natAbs (negℤ z) + d
     turned z w l = rw (abs-neg w, abs-neg z) l
 
--- of a number of magnitude at most a
+-- |nearest d z| ≤ (a + d/2) / d where |z| ≤ a
 pub nearest-within : (d : ℕ) → 0 < d → (a : ℕ) (z : ℤ) → natAbs z ≤ a → natAbs (nearest d z) ≤ (a + d / 2) / d
 nearest-within d h a (pos k) l = q-mono d h k a l
 nearest-within d h a (negsuc k) l = rw (abs-neg (pos ((suc k + d / 2) / d))) (q-mono d h (suc k) a l)
 
--- ---- values: at a tie away from zero, on both sides; at zero; at both ends of the sample range
+-- ---- ties and zero
 
+-- k + 1/2 goes to k + 1; below 0 by `nearest-neg`
 pub nearest-tie : (h k : ℕ) → 0 < h → nearest (2 * h) (pos (2 * h * k + h)) ≡ pos (k + 1)
 nearest-tie h k l = pos-nearest (2 * h) (2 * h * k + h) (k + 1) (omega arith) (omega arith)
 
-pub nearest-tie-below : (h k : ℕ) → 0 < h → nearest (2 * h) (negℤ (pos (2 * h * k + h))) ≡ negℤ (pos (k + 1))
-nearest-tie-below h k l = nearest-neg (2 * h) (pos (2 * h * k + h)) ∙ ap negℤ (nearest-tie h k l)
-
 pub nearest-zero : (d : ℕ) → nearest d (pos 0) ≡ pos 0
 nearest-zero d = ap pos (q-zero d)
-
-pub at-ends : (nearest 100000 least24 ≡ negsuc 83) × (nearest 100000 most24 ≡ pos 84) × (nearest 4096 least24 ≡ negsuc 2047) × (nearest 4096 most24 ≡ pos 2048)
-at-ends = (refl, refl, refl, refl)

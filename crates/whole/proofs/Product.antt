@@ -1,6 +1,6 @@
 -- What the code of `products` asks: a widened place, a product and the sum with it fit 64 bits. Assumes nothing.
 use mathlib.Core.Path.{_≡_, refl}
-use Prim.Native.Nat.{_+_, _*_, _≤_, _<_, _^_}
+use Prim.Native.Nat.{_*_, _≤_, _<_, _^_}
 use native.Mathlib.Nat.{mul-le-mul}
 use native.Mathlib.Omega.{arith}
 use lib.IntN.{ℤ, natAbs, _+ℤ_, _*ℤ_}

@@ -1,5 +1,5 @@
--- What the code of `rounding` asks: the sum fits, the quotient fits, the answer is `nearest`. Once over the divisor d and
--- its half; a number is written as the machine reads it back, `raw`. Assumes nothing.
+-- What the code of `rounding` asks: s, the number z moved by half a divisor, fits, its quotient fits, and the answer is `nearest`.
+-- Proved once over the divisor d. Assumes nothing.
 use mathlib.Core.Path.{_≡_, refl, sym, ap}
 use mathlib.Core.Bool.{true, false}
 use Prim.Native.Nat.{ℕ, suc, _+_, _/_, _≤_, _<_, _^_}
@@ -14,7 +14,7 @@ use Rattle.whole.specs.Nearest.{nearest}
 use Rattle.whole.proofs.Signed.{var, lit, _⊕_, _⊖_, mag-by, about, ltZ-yes, ltZ-no}
 use Rattle.whole.proofs.Nearest.{nearest-abs}
 
--- a number as the machine reads it back from its bits
+-- a number as the machine reads it back from its bits: z itself where z fits (`toZ-ofZ`)
 abbrev pub raw : Width → ℤ → ℤ
 raw w z = toZ w (ofZ w z)
 
@@ -26,7 +26,7 @@ pub record Rounds (d : ℕ) (z s : ℤ) : Type 0 where
 pub nearest-fits : (d : ℕ) → 0 < d → d ≤ 2 ^ 60 → (z : ℤ) → natAbs z ≤ 2 ^ 62 → SFits w64 (nearest d z)
 nearest-fits d h l z b = record { sfits = omega (arith, about (nearest d z), nearest-abs d h z, le-mul-of-pos-right (natAbs (nearest d z)) h) }
 
--- the quotient of the moved number is the nearest, by the number's sign
+-- the cut quotient of z - d/2 below 0, of z + d/2 from 0 on, is the nearest
 quotient-below : (d h : ℕ) (z : ℤ) → d / 2 ≡ suc h → ltZ z (pos 0) ≡ true → quotZ (z -ℤ pos (suc h)) (pos d) ≡ nearest d z
 quotient-below d h (pos a) e t = absurd (omega (arith, ltZ-yes (pos a) (pos 0) t))
 quotient-below d h (negsuc a) e t = ap (λ (k : ℕ). negℤ (pos (k / d))) (omega arith)

@@ -6,7 +6,7 @@ use mathlib.Core.Path.{_≡_, refl, sym, ap, subst}
 use mathlib.Core.Bool.{Bool, true, false, not, cond}
 use Prim.Native.Nat.{ℕ, zero, suc, _+_, _*_, _-_, _≤_, _<_, min, pred}
 use native.Mathlib.Omega.{arith}
-use lib.Dec.{T, ltb, leb, ltb→lt, nltb→le, leb→le, le→leb, lt→ltb}
+use lib.Dec.{T, ltb, ltb→lt, nltb→le, leb→le, le→leb, lt→ltb}
 use lib.IntN.{ℤ, pos, negsuc, negℤ, natAbs, subℕ, _+ℤ_, _*ℤ_}
 use lib.Signed as S
 use lib.Signed.{mag, ltZ, leZ, _≤ℤ_, _<ℤ_}
@@ -116,7 +116,7 @@ x ⊗ y = record { z = x .z *ℤ y .z; p = x .p * y .p + x .n * y .n; n = x .p *
         both (x .p) (x .n) (up (x .z)) (down (x .z)) (y .p) (y .n) (up (y .z)) (down (y .z)) (up (x .z *ℤ y .z))
         (down (x .z *ℤ y .z)) (x .same) (y .same) (mul-parts (x .z) (y .z))
 
--- ---- what is asked of numbers, as facts on their parts
+-- ---- relations by the parts
 
 parts-eq : (a b : ℤ) → up a + down b ≡ up b + down a → a ≡ b
 parts-eq (pos a) (pos b) e = ap pos (omega arith)
@@ -148,7 +148,7 @@ parts-lt (pos a) (negsuc b) t = absurd t
 parts-lt (negsuc a) (pos b) t = omega arith
 parts-lt (negsuc a) (negsuc b) t = omega (arith, ltb→lt b a t)
 
--- the sizes of a number, by its parts
+-- the sizes of a number by its parts, of which one is 0
 pub record About (a : ℤ) : Type 0 where
   pub abs-is : natAbs a ≡ up a + down a
   pub one-is-none : min (up a) (down a) ≡ 0
@@ -175,7 +175,7 @@ abs-by x k h l = omega (arith, x .same, about (x .z))
 pub mag-by : (x : Diff) (k : ℕ) → x .p < k + x .n → x .n ≤ k + x .p → mag (x .z) < k
 mag-by x k h l = omega (arith, x .same, about (x .z))
 
--- ---- and back
+-- ---- from a fact on z to one on p and n
 
 pub eq-of : (x y : Diff) → x .z ≡ y .z → x .p + y .n ≡ y .p + x .n
 eq-of x y e = omega (arith, x .same, y .same, ap up e, ap down e)
@@ -200,8 +200,9 @@ abs-of x k h =
 pub mag-of : (x : Diff) (k : ℕ) → mag (x .z) < k → (x .p < k + x .n) × (x .n ≤ k + x .p)
 mag-of x k h = (omega (arith, x .same, about (x .z)), omega (arith, x .same, about (x .z)))
 
--- ---- hypotheses that `omega` reads by itself, on plain variables: list `signed` for `arith`
+-- ---- the ruleset `signed`
 
+-- `omega signed` reads hypotheses a ≡ b, a ≤ b, a < b on ℤ, and their tests, by itself where a and b are variables
 pub read-eq : (a b : ℤ) → a ≡ b → up a + down b ≡ up b + down a
 read-eq a b e = eq-of (var a) (var b) e
 

@@ -17,7 +17,7 @@ use Rattle.whole.proofs.Magnitude.{abs-+ℤ, abs-*ℤ}
 below-suc : {i n : ℕ} → i < n → i < suc n
 below-suc h = omega arith
 
--- ---- of equal terms, of a sum, of a difference, of a multiple, of nothing
+-- ---- equations
 
 pub sum-ext : (n : ℕ) {f g : ℕ → ℤ} → ((i : ℕ) → i < n → f i ≡ g i) → sum n f ≡ sum n g
 unfolding sum
@@ -100,9 +100,9 @@ abs-sum-* n c x X h =
     le-trans (abs-sum n (λ i. c i *ℤ x i))
     (rw (← (sumℕ-*ʳ n (λ i. natAbs (c i)) X)) (sumℕ-mono n (λ i k. rw (abs-*ℤ (c i) (x i)) (mul-le-mul-left (natAbs (c i)) (h i k)))))
 
--- ---- Abel's rearrangement
+-- ---- summation by parts
 
--- weights times differences are differences of weights, and the two ends
+-- Σ g(i)·(a(i+1) - a(i)), i = 0..n, is g(n)·a(n+1) - g(0)·a(0) + Σ (g(i) - g(i+1))·a(i+1), i = 0..n-1
 pub abel : (n : ℕ) (g a : ℕ → ℤ) →
     sum (suc n) (λ i. g i *ℤ (a (suc i) -ℤ a i)) ≡
     g n *ℤ a (suc n) -ℤ g 0 *ℤ a 0 +ℤ sum n (λ i. (g i -ℤ g (suc i)) *ℤ a (suc i))

@@ -1,8 +1,8 @@
--- `line::low_value` meets its contract: each way's sum is the page's, rounded and limited once. Assumes nothing.
+-- `line::low_value` meets its contract: each way's sum is rule 5.7's, rounded and limited once. Assumes nothing.
 use denote.Ref.{now}
 use borrow.Author.Needs.{needs}
 use Rattle.tree.specs.Prototype.{published}
-use Rattle.octave.specs.Line.{Summed}
+use Rattle.octave.specs.Helpers.{Summed}
 use Rattle.octave.proofs.Taps.{summed-of-raw, sum-in-reach, low-value-is}
 use Rattle.octave.proofs.line.low_value.Statement.{statement}
 use Rattle.octave.proofs.line.low_value.Tie as tie

@@ -1,4 +1,4 @@
--- `line::straight` meets its contract: what is read without a wrap is what the page weighs. Assumes nothing.
+-- `line::straight` meets its contract: what is read without a wrap is what is weighed. Assumes nothing.
 use Prim.Native.Nat.{_<_, _-_, _*_}
 use native.Mathlib.Omega.{arith}
 use lib.Dec.{lit≤}

@@ -1,19 +1,19 @@
 -- `limiting::limit_24` meets its contract: the law over the ends, at the 24-bit ones. Assumes nothing.
 use mir.Facts.{sfits-lit}
-use Rattle.whole.specs.Limit.{least24, most24}
+use Rattle.answers.specs.Unit.{leastSample, mostSample}
 use Rattle.whole.proofs.Limited.{Within, below, above, within}
 use Rattle.whole.proofs.limiting.limit_24.Statement.{statement}
 use Rattle.whole.proofs.limiting.limit_24.Tie as tie
 
 returns : tie.Need-returns
-returns c = below least24 most24 (c .before .args .z) (c .before .fits .z) (c .if1 .taken)
+returns c = below leastSample mostSample (c .before .args .z) (c .before .fits .z) (c .if1 .taken)
 
 returns-2 : tie.Need-returns-2
-returns-2 c = above least24 most24 (c .before .before .args .z) (c .before .before .fits .z) (c .before .if1 .left) (c .if2 .taken)
+returns-2 c = above leastSample mostSample (c .before .before .args .z) (c .before .before .fits .z) (c .before .if1 .left) (c .if2 .taken)
 
-inside : (c : tie.Else2) → Within least24 most24 (c .before .before .args .z)
+inside : (c : tie.Else2) → Within leastSample mostSample (c .before .before .args .z)
 inside c =
-    within least24 most24 (c .before .before .args .z) (c .before .before .fits .z) (sfits-lit tt) (sfits-lit tt) (c .before .if1 .left)
+    within leastSample mostSample (c .before .before .args .z) (c .before .before .fits .z) (sfits-lit tt) (sfits-lit tt) (c .before .if1 .left)
     (c .if2 .left)
 
 cast-result : tie.Need-cast-result

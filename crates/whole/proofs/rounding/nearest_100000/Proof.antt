@@ -19,14 +19,14 @@ rounded c =
     (λ w. subst at (sym (w .1)) (rounds-above 100000 50000 (s .args .z) (lit< tt) (lit≤ tt) (s .fits .z) (s .pre) refl (w .0 .left)))
     (c .if1 .came)
 
+returns : tie.Need-returns
+returns c = rounded c .answer
+
 add-result : tie.Need-add-result
 add-result c = rounded c .sum-fits
 
 div-result : tie.Need-div-result
 div-result c = (lit< tt, rounded c .quotient-fits)
-
-returns : tie.Need-returns
-returns c = rounded c .answer
 
 pub nearest-100000-spec : {M : Type 1} → statement M
 nearest-100000-spec = tie.close (tie.spec add-result div-result returns)

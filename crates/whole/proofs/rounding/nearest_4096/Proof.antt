@@ -1,4 +1,4 @@
--- `rounding::nearest_4096` meets its contract: the law over the divisor, at 4096 and its half, by the number's sign. Assumes nothing.
+-- `rounding::nearest_4096` meets its contract: the law over the divisor, at unity and its half, by the number's sign. Assumes nothing.
 use mathlib.Core.Logic.{⊎-elim}
 use mathlib.Core.Path.{refl, sym, subst}
 use Prim.Native.Nat.{ℕ}
@@ -6,27 +6,28 @@ use lib.Dec.{lit<, lit≤}
 use lib.IntN.{_+ℤ_}
 use mir.Syntax.{w64}
 use mir.Val.{toZ}
+use Rattle.answers.specs.Unit.{unity}
 use Rattle.whole.proofs.Rounded.{raw, Rounds, rounds-below, rounds-above}
 use Rattle.whole.proofs.rounding.nearest_4096.Statement.{statement}
 use Rattle.whole.proofs.rounding.nearest_4096.Tie as tie
 
-rounded : (c : tie.Joined1) → Rounds 4096 (c .before .args .z) (raw w64 (c .before .args .z) +ℤ toZ w64 (c .if1 .half))
+rounded : (c : tie.Joined1) → Rounds unity (c .before .args .z) (raw w64 (c .before .args .z) +ℤ toZ w64 (c .if1 .half))
 rounded c =
     let s = c .before in
-    let at : ℕ → Type 0 = λ k. Rounds 4096 (s .args .z) (raw w64 (s .args .z) +ℤ toZ w64 k) in
+    let at : ℕ → Type 0 = λ k. Rounds unity (s .args .z) (raw w64 (s .args .z) +ℤ toZ w64 k) in
     ⊎-elim
-    (λ w. subst at (sym (w .1)) (rounds-below 4096 2047 (s .args .z) (lit< tt) (lit≤ tt) (s .fits .z) (s .pre) refl (w .0 .taken)))
-    (λ w. subst at (sym (w .1)) (rounds-above 4096 2048 (s .args .z) (lit< tt) (lit≤ tt) (s .fits .z) (s .pre) refl (w .0 .left)))
+    (λ w. subst at (sym (w .1)) (rounds-below unity 2047 (s .args .z) (lit< tt) (lit≤ tt) (s .fits .z) (s .pre) refl (w .0 .taken)))
+    (λ w. subst at (sym (w .1)) (rounds-above unity 2048 (s .args .z) (lit< tt) (lit≤ tt) (s .fits .z) (s .pre) refl (w .0 .left)))
     (c .if1 .came)
+
+returns : tie.Need-returns
+returns c = rounded c .answer
 
 add-result : tie.Need-add-result
 add-result c = rounded c .sum-fits
 
 div-result : tie.Need-div-result
 div-result c = (lit< tt, rounded c .quotient-fits)
-
-returns : tie.Need-returns
-returns c = rounded c .answer
 
 pub nearest-4096-spec : {M : Type 1} → statement M
 nearest-4096-spec = tie.close (tie.spec add-result div-result returns)

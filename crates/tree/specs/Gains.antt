@@ -1,12 +1,10 @@
--- 01, The unit's edges: what the calls allow.
+-- 01, The unit's edges: the gains that the calls allow.
 use Prim.Native.Nat.{ℕ, _≤_}
 use lib.IntN.{ℤ, pos}
 use lib.Signed.{_≤ℤ_}
+use Rattle.answers.specs.Unit.{largestGain}
 
 -- "Gains are whole numbers from 0 to 16,384"
-abbrev pub largestGain : ℕ
-largestGain = 16384
-
 pub record IsGain (z : ℤ) : Type 0 where
   pub least : pos 0 ≤ℤ z
   pub most : z ≤ℤ pos largestGain
@@ -14,7 +12,3 @@ pub record IsGain (z : ℤ) : Type 0 where
 -- the gains of sample n, for bands 1 to M
 abbrev pub AllowedGains : ℕ → (ℕ → ℕ → ℤ) → ℕ → Type 0
 AllowedGains M g n = (m : ℕ) → 1 ≤ m → m ≤ M → IsGain (g n m)
-
--- "Samples from -8,388,608 to 8,388,607": the largest magnitude
-abbrev pub largestSample : ℕ
-largestSample = 8388608

@@ -1,4 +1,4 @@
--- A rule over a range of numbers by one computed test over them. Assumes nothing.
+-- A fact about every number of a range, by one test that is computed. Assumes nothing.
 use mathlib.Core.Path.{_≡_, refl, sym, subst}
 use mathlib.Core.Bool.{Bool, true, false, _&&_}
 use Prim.Native.Nat.{ℕ, zero, suc, _+_, _-_, _≤_, _<_}

@@ -1,4 +1,4 @@
--- How far the lines of a signal within the sample range go: within 32 bits for ten bands, so that 01's "a new line value beyond
+-- The lines of a signal within the sample range stay within 32 bits, for ten bands, so that 01's "a new line value beyond
 -- 32 bits is limited to 32 bits" never acts from prepared memory. Over any prototype whose magnitudes add up to at most A.
 -- Assumes nothing.
 use mathlib.Core.Path.{_≡_, refl}
@@ -10,19 +10,19 @@ use lib.Dec.{T, ltb, ltb→lt}
 use lib.IntN.{natAbs}
 use mir.Syntax.{w32}
 use mir.Val.{SFits}
-use Rattle.whole.specs.Limit.{limit, least32, most32}
+use Rattle.answers.specs.Unit.{largestSample, leastPlace, mostPlace}
+use Rattle.whole.specs.Limit.{limit}
 use Rattle.whole.proofs.Signed.{about}
 use Rattle.whole.proofs.Nearest.{nearest-within}
 use Rattle.whole.proofs.Limit.{limit32-id}
 use Rattle.tree.specs.Prototype.{Prototype, scale, magnitudes, published}
 use Rattle.tree.specs.Signal.{Signal}
-use Rattle.tree.specs.Edges.{largestSample}
 use Rattle.tree.specs.Tree.{weighted, lowPass, level}
 use Rattle.tree.proofs.Table.{magnitudes-add-up}
-use Rattle.tree.proofs.Counts.{every, every-at}
+use Rattle.tree.proofs.EveryNumber.{every, every-at}
 use Rattle.tree.proofs.Weighted.{weighted-abs}
 
--- level j goes no further: each low-pass at most multiplies by A over 100,000, and rounds
+-- |level j| ≤ reach A j: a low-pass of a signal within X is within A·X/100,000, rounded
 unfoldable pub reach : ℕ → ℕ → ℕ
 reach A zero = largestSample
 reach A (suc j) = (A * reach A j + scale / 2) / scale
@@ -37,7 +37,7 @@ module _ (p : Prototype) (A : ℕ) (sized : magnitudes p ≤ A) (x : Signal) whe
       (weighted-abs p (2 ^ j) (level p j x) n (reach A j) (λ k h. level-reach j k (λ i l. samples i (le-trans l h))))
       (mul-le-mul-right (reach A j) sized))
 
-  -- ---- where the ten reaches are below 2^31
+  -- ---- ten levels within 32 bits
 
   module _ (below : T (every 10 (λ j. ltb (reach A j) (2 ^ 31)))) (n : ℕ) (samples : (k : ℕ) → k ≤ n → natAbs (x k) ≤ largestSample) where
     pub level-small : (j : ℕ) → j ≤ 9 → natAbs (level p j x n) < 2 ^ 31
@@ -47,16 +47,17 @@ module _ (p : Prototype) (A : ℕ) (sized : magnitudes p ≤ A) (x : Signal) whe
     pub level-fits : (j : ℕ) → j ≤ 9 → SFits w32 (level p j x n)
     level-fits j h = record { sfits = omega (arith, level-small j h, about (level p j x n)) }
 
-    pub limit-never-acts : (j : ℕ) → j ≤ 9 → limit least32 most32 (level p j x n) ≡ level p j x n
+    pub limit-never-acts : (j : ℕ) → j ≤ 9 → limit leastPlace mostPlace (level p j x n) ≡ level p j x n
     limit-never-acts j h = limit32-id (level-fits j h)
 
     -- the same of a new line value, as the low-pass gives it
-    pub low-pass-never-limited : (j : ℕ) → j < 9 → limit least32 most32 (lowPass p (2 ^ j) (level p j x) n) ≡ lowPass p (2 ^ j) (level p j x) n
+    pub low-pass-never-limited : (j : ℕ) → j < 9 → limit leastPlace mostPlace (lowPass p (2 ^ j) (level p j x) n) ≡ lowPass p (2 ^ j) (level p j x) n
     unfolding level
     low-pass-never-limited j h = limit-never-acts (suc j) h
 
--- ---- 01's table: "their magnitudes add up to 140,240"
+-- ---- the published table
 
+-- "their magnitudes add up to 140,240"
 published-sized : magnitudes published ≤ 140240
 published-sized = rw magnitudes-add-up (le-refl 140240)
 
@@ -74,12 +75,6 @@ module _ (x : Signal) (n : ℕ) (samples : (k : ℕ) → k ≤ n → natAbs (x k
   pub published-reach : (j : ℕ) → natAbs (level published j x n) ≤ reach 140240 j
   published-reach j = level-reach published 140240 published-sized x j n samples
 
-  pub published-level-fits : (j : ℕ) → j ≤ 9 → SFits w32 (level published j x n)
-  published-level-fits = level-fits published 140240 published-sized x reaches-below n samples
-
-  pub published-limit-never-acts : (j : ℕ) → j ≤ 9 → limit least32 most32 (level published j x n) ≡ level published j x n
-  published-limit-never-acts = limit-never-acts published 140240 published-sized x reaches-below n samples
-
   pub published-low-pass-never-limited : (j : ℕ) → j < 9 →
-      limit least32 most32 (lowPass published (2 ^ j) (level published j x) n) ≡ lowPass published (2 ^ j) (level published j x) n
+      limit leastPlace mostPlace (lowPass published (2 ^ j) (level published j x) n) ≡ lowPass published (2 ^ j) (level published j x) n
   published-low-pass-never-limited = low-pass-never-limited published 140240 published-sized x reaches-below n samples
