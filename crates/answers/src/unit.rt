@@ -1,8 +1,12 @@
 // The unit's numbers, each named once (specs/Unit has the same names).
 pub const FEWEST_BANDS: i32 = 2;
+
 pub const MOST_BANDS: i32 = 10;
+
 pub const LEAST_SAMPLE: i32 = -8388608;
+
 pub const MOST_SAMPLE: i32 = 8388607;
+
 pub const LARGEST_GAIN: i32 = 16384;
 // The gain that changes nothing.
 pub const UNITY: i64 = 4096;

@@ -36,7 +36,13 @@ fn equalise(memory: &mut [i32], gains: &[i32], input: &[i32], output: &mut [i32]
 }
 
 // The call on an accepted memory of `bands` bands. All is judged before anything is written.
-fn block_of(memory: &mut [i32], gains: &[i32], input: &[i32], output: &mut [i32], bands: usize) -> Blocked
+fn block_of(
+    memory: &mut [i32],
+    gains: &[i32],
+    input: &[i32],
+    output: &mut [i32],
+    bands: usize,
+) -> Blocked
     requires { ⌜ KeptBands bands (now memory) ⌝ }
     ensures { λ r. ⌜ Done (blockOf (now (memory .entry)) (now (gains .entry)) (now (input .entry)) (now (output .entry))) r (now (memory .exit), now (output .exit)) ⌝ }
 {
