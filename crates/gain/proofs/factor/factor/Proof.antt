@@ -9,7 +9,7 @@ use lib.Ieee.{ofBits}
 use mir.Facts.{toZ-ofZ}
 use mir.Syntax.{w32}
 use mir.Val.{SFits}
-use Rattle.gain.specs.Answer.{accepted}
+use Rattle.gain.specs.declared.Gained.the-variants.{Gain}
 use Rattle.gain.proofs.Factors.{Accepted, refused-nan, refused-below, refused-above, not-refused, half-steps, few-steps, steps-cut, accepted-steps}
 use Rattle.gain.proofs.factor.factor.Statement.{statement}
 use Rattle.gain.proofs.factor.factor.Tie as tie
@@ -56,7 +56,7 @@ returns-4 : tie.Need-returns-4
 returns-4 c =
     let l = few c in
     let fits : SFits w32 (pos ((c .truncating-f32-to-u64 .result + 1) / 2)) = record { sfits = omega arith } in
-    ap accepted (toZ-ofZ fits ∙ ap (λ (t : ℕ). pos ((t + 1) / 2)) (steps c))
+    ap Gain (toZ-ofZ fits ∙ ap (λ (t : ℕ). pos ((t + 1) / 2)) (steps c))
     ∙ sym (accepted-steps (c .before .before .before .before .args .x) (kept (c .before)))
 
 pub factor-spec : {M : Type 1} → statement M
