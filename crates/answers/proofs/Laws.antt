@@ -9,8 +9,8 @@ use native.Mathlib.Omega.{arith}
 use borrow.Author.Tests.{ltb-true}
 use lib.Dec.{ltb, lit<}
 use Rattle.answers.specs.Answer.{Answer, accepted, numberIn}
-use Rattle.answers.specs.Checks.{Check, check, Outcome, decide, Done}
-use Rattle.answers.specs.Judging.{allHold, First, here, later, Each, allRefuse}
+use Rattle.answers.specs.Checks.{Check, allHold, choose, Outcome, decide, Done}
+use Rattle.answers.specs.Judging.{First, here, later, Each, allRefuse}
 
 pub and-left : (a b : Bool) → (a && b) ≡ true → a ≡ true
 and-left true b h = refl
@@ -40,6 +40,20 @@ module _ (R L : Type 0) (before after : L) (result r : R) where
   unfolding decide
   accepts lent e d = record { result-is = e; lent-is = d }
 
+-- the same for a call that changes no place
+module _ (R : Type 0) (result r : R) where
+  pub chosen-here : (test : Bool) (cs : List (Check R)) → test ≡ false → r ≡ choose (record { holds = test; otherwise = r } ∷ cs) result
+  unfolding choose
+  chosen-here test cs e = rw e
+
+  pub chosen-on : (test : Bool) (case : R) (cs : List (Check R)) → test ≡ true → r ≡ choose cs result → r ≡ choose (record { holds = test; otherwise = case } ∷ cs) result
+  unfolding choose
+  chosen-on test case cs e d = rw e d
+
+  pub chosen-last : r ≡ result → r ≡ choose [] result
+  unfolding choose
+  chosen-last e = e
+
 -- ---- accepted if none fails, else the first that fails
 
 module _ {R L : Type 0} (before after : L) (result : R) where
@@ -64,6 +78,27 @@ module _ {R L : Type 0} (before after : L) (result : R) where
       by true f g = g refl
       by false f g = f refl
 
+pub chosen-all : {R : Type 0} (result : R) (cs : List (Check R)) → allHold cs ≡ true → choose cs result ≡ result
+unfolding choose allHold
+chosen-all result [] e = refl
+chosen-all result (c ∷ cs) e = rw (and-left (c .holds) (allHold cs) e) (chosen-all result cs (and-right (c .holds) (allHold cs) e))
+
+pub chosen-first : {R : Type 0} (result : R) {cs : List (Check R)} {r : R} → First cs r → choose cs result ≡ r
+unfolding choose
+chosen-first result (here e) = rw e
+chosen-first result (later e f) = rw e (chosen-first result f)
+
+-- a call's answer is that of its checks alone
+pub decided : {R L : Type 0} (before after : L) (result : R) (cs : List (Check R)) → decide cs before result after .result ≡ choose cs result
+unfolding decide choose
+decided before after result [] = refl
+decided before after result (c ∷ cs) = by (c .holds) (decided before after result cs)
+  where
+    by : (t : Bool) → decide cs before result after .result ≡ choose cs result →
+        cond t (decide cs before result after) (record { result = c .otherwise; lent = before }) .result ≡ cond t (choose cs result) (c .otherwise)
+    by true e = e
+    by false e = refl
+
 pub all-or-first : {R : Type 0} (cs : List (Check R)) → (allHold cs ≡ true) ⊎ ((r : R) × First cs r)
 unfolding allHold
 all-or-first [] = inl refl
@@ -83,17 +118,29 @@ first-numbered answerOf e (here {r = r} {cs = cs} d) = and-left (ltb 0 (numberIn
 first-numbered answerOf e (later {case = x} {cs = cs} d h) =
     first-numbered answerOf (and-right (ltb 0 (numberIn (answerOf x))) (allRefuse answerOf cs) e) h
 
-module _ {R L A : Type 0} (answerOf : R → Answer A) (cs : List (Check R)) (before after : L) (result : R) where
+module _ {R A : Type 0} (answerOf : R → Answer A) (cs : List (Check R)) (result : R) where
   -- an accepted answer: no check failed
-  pub accepted-holds : (a : A) → allRefuse answerOf cs ≡ true → answerOf (decide cs before result after .result) ≡ accepted a → allHold cs ≡ true
-  accepted-holds a e d = by (all-or-first cs)
+  pub chosen-holds : (a : A) → allRefuse answerOf cs ≡ true → answerOf (choose cs result) ≡ accepted a → allHold cs ≡ true
+  chosen-holds a e d = by (all-or-first cs)
     where
       by : (allHold cs ≡ true) ⊎ ((r : R) × First cs r) → allHold cs ≡ true
       by (inl h) = h
       by (inr h) =
           let f : ltb 0 (numberIn (answerOf (h .0))) ≡ true = first-numbered answerOf e (h .1) in
-          let g : answerOf (h .0) ≡ accepted a = sym (ap (λ (o : Outcome R L). answerOf (o .result)) (first-refuses before after result (h .1))) ∙ d in
+          let g : answerOf (h .0) ≡ accepted a = sym (ap answerOf (chosen-first result (h .1))) ∙ d in
           absurd (false≢true (sym (ap (λ (x : Answer A). ltb 0 (numberIn x)) g) ∙ f))
+
+  -- a refusal: some check failed
+  pub chosen-fails : (numberIn (answerOf (choose cs result)) ≡ 0 → ⊥) → numberIn (answerOf result) ≡ 0 → allHold cs ≡ false
+  chosen-fails n z = by (allHold cs) refl
+    where
+      by : (t : Bool) → allHold cs ≡ t → t ≡ false
+      by true e = absurd (n (ap (λ (r : R). numberIn (answerOf r)) (chosen-all result cs e) ∙ z))
+      by false e = refl
+
+module _ {R L A : Type 0} (answerOf : R → Answer A) (cs : List (Check R)) (before after : L) (result : R) where
+  pub accepted-holds : (a : A) → allRefuse answerOf cs ≡ true → answerOf (decide cs before result after .result) ≡ accepted a → allHold cs ≡ true
+  accepted-holds a e d = chosen-holds answerOf cs result a e (sym (ap answerOf (decided before after result cs)) ∙ d)
 
   -- a refusal leaves every lent place as it was
   pub refused-keeps : (numberIn (answerOf (decide cs before result after .result)) ≡ 0 → ⊥) → numberIn (answerOf result) ≡ 0 →

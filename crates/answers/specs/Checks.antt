@@ -1,6 +1,6 @@
 -- How a call refuses: one list of checks, in order.
 use mathlib.Core.Path.{_≡_}
-use mathlib.Core.Bool.{Bool, cond}
+use mathlib.Core.Bool.{Bool, true, cond, _&&_}
 use mathlib.Core.List.{List, [], _∷_}
 
 -- a test that must hold, and the case that the call answers where it does not; R is the call's own enum
@@ -10,6 +10,16 @@ pub record Check (R : Type 0) : Type 0 where
 
 abbrev pub check : {R : Type 0} → Bool → R → Check R
 check test case = record { holds = test; otherwise = case }
+
+-- no check fails
+unfoldable pub allHold : {R : Type 0} → List (Check R) → Bool
+allHold [] = true
+allHold (c ∷ cs) = c .holds && allHold cs
+
+-- the answer of a call that changes no place: the case of the first check that fails, the result if none fails
+unfoldable pub choose : {R : Type 0} → List (Check R) → (result : R) → R
+choose [] result = result
+choose (c ∷ cs) result = cond (c .holds) (choose cs result) (c .otherwise)
 
 -- what a call answers, and what the places lent to it hold afterwards
 pub record Outcome (R L : Type 0) : Type 0 where

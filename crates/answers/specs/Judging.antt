@@ -1,15 +1,10 @@
--- Bookkeeping of proofs and of private functions: a reader of the promises needs none of it.
+-- Bookkeeping of the laws: no promise speaks of it.
 use mathlib.Core.Path.{_≡_}
-use mathlib.Core.Bool.{Bool, true, false, cond, _&&_}
+use mathlib.Core.Bool.{Bool, true, false, _&&_}
 use mathlib.Core.List.{List, [], _∷_}
 use lib.Dec.{ltb}
 use Rattle.answers.specs.Answer.{Answer, numberIn}
 use Rattle.answers.specs.Checks.{Check, check}
-
--- no check fails
-unfoldable pub allHold : {R : Type 0} → List (Check R) → Bool
-allHold [] = true
-allHold (c ∷ cs) = c .holds && allHold cs
 
 -- r is the case of the first check that fails
 pub data First {R : Type 0} : List (Check R) → R → Type 0 where
@@ -25,8 +20,3 @@ Each P (c ∷ cs) result = (c .holds ≡ false → P (c .otherwise)) × (c .hold
 unfoldable pub allRefuse : {R A : Type 0} → (R → Answer A) → List (Check R) → Bool
 allRefuse answerOf [] = true
 allRefuse answerOf (c ∷ cs) = ltb 0 (numberIn (answerOf (c .otherwise))) && allRefuse answerOf cs
-
--- the answer of a group of checks that a function of its own makes, the result where none fails
-unfoldable pub choose : {R : Type 0} → List (Check R) → R → R
-choose [] result = result
-choose (c ∷ cs) result = cond (c .holds) (choose cs result) (c .otherwise)
