@@ -4,9 +4,7 @@ use mathlib.Core.Path.{_≡_, refl, sym, ap, _∙_}
 use mathlib.Core.Logic.{_⊎_, inl, inr}
 use mathlib.Core.Bool.{Bool, true, false, cond, _&&_, false≢true}
 use mathlib.Core.List.{List, [], _∷_}
-use Prim.Native.Nat.{ℕ, _<_}
-use native.Mathlib.Omega.{arith}
-use borrow.Author.Tests.{ltb-true}
+use Prim.Native.Nat.{_<_}
 use lib.Dec.{ltb, lit<}
 use Rattle.answers.specs.Answer.{Answer, accepted, numberIn}
 use Rattle.answers.specs.Checks.{Check, allHold, choose, Outcome, decide, Done}

@@ -1,108 +1,79 @@
 -- Accepted block calls, one after the other, on a memory that holds a history. Assumes nothing.
 use mathlib.Core.Path.{_≡_, refl, sym, ap, ap₂, subst, _∙_}
-use mathlib.Core.Bool.{Bool, true, false, not, cond}
+use mathlib.Core.Bool.{true}
 use mathlib.Core.List.{List, [], _∷_, _++_}
 use Prim.Native.Nat.{ℕ, zero, suc, _+_, _-_, _*_, _^_, _≤_, _<_}
 use native.Mathlib.Nat.{one-mul}
-use lib.Pow.{pow-pos}
 use native.Mathlib.Decide.{decLt}
 use native.Mathlib.Omega.{arith}
-use borrow.Author.Tests.{eqb-true, le-ltb, le-leb}
-use lib.Dec.{eqb, leb}
+use lib.Pow.{pow-pos}
 use lib.ListN.{length, getD, replicate, length-replicate, List·getD-eq-default}
 use lib.IntN.{ℤ, pos, natAbs}
-use Rattle.whole.specs.Limit.{least24, most24}
+use Rattle.answers.specs.Answer.{accepted}
+use Rattle.answers.specs.Checks.{allHold, Outcome}
+use Rattle.answers.specs.Judging.{allRefuse}
+use Rattle.answers.specs.Range.{within, allWithin}
+use Rattle.answers.specs.Unit.{leastSample, mostSample, largestSample, largestGain}
+use Rattle.answers.proofs.Laws.{and-left, and-right, all-accept, accepted-holds}
+use Rattle.answers.proofs.Ranges.{all-at}
 use Rattle.whole.proofs.Signed.{about}
 use Rattle.tree.specs.Prototype.{published}
 use Rattle.tree.specs.Signal.{Signal, signalOf, gainOf}
 use Rattle.tree.specs.Tree.{output}
-use Rattle.tree.specs.Edges.{largestSample}
+use Rattle.tree.specs.Forms.{treeSum}
 use Rattle.tree.proofs.Recursive.{recursive-form}
 use Rattle.tree.proofs.Reach.{published-low-pass-never-limited}
-use Rattle.octave.specs.declared.memory.Kept.{Kept}
-use Rattle.octave.specs.declared.memory.Kept.the-variants.{Bands, CountWrong, LengthWrong, PositionOutside}
-use Rattle.octave.specs.Range.{within, allWithin}
-use Rattle.octave.specs.Answer.{accepted, refused}
-use Rattle.octave.specs.Memory.{lineLength, countAllowed, prepared, keptOf}
-use Rattle.octave.specs.Step.{Region}
+use Rattle.octave.specs.declared.block.Blocked.{Blocked}
+use Rattle.octave.specs.declared.block.Blocked.the-variants.{Written}
+use Rattle.octave.specs.Answer.{blockAnswer}
+use Rattle.octave.specs.Memory.{lineLength, prepared}
 use Rattle.octave.specs.Run.{outOf, run}
-use Rattle.octave.specs.Block.{Blocking, accept, judged, blockAt, blockOf}
-use Rattle.octave.specs.History.{Call, AllAccepted, joined, from}
-use Rattle.octave.proofs.Ranges.{within-parts, all-at}
-use Rattle.tree.specs.Forms.{treeSum}
-use Rattle.octave.proofs.Keeping.{kept-bands}
+use Rattle.octave.specs.Block.{blockChecks, equalised, blockOf}
+use Rattle.octave.specs.History.{Call, called, afterCall, AllAccepted, joined, from}
+use Rattle.octave.specs.Helpers.{Region}
+use Rattle.octave.proofs.Ranges.{within-parts}
 use Rattle.octave.proofs.Layouts.{line-small}
 use Rattle.octave.proofs.Holds.{Holds, Unlimited, Free}
 use Rattle.octave.proofs.Samples.{run-keeps, holds-none}
 
 -- ---- an accepted call
 
-pub not-both : {A : Type 0} {n k : ℕ} → refused n ≡ accepted k → A
-not-both e = let z : _≡_ {A = ℕ} 0 1 = cc in absurd (omega arith)
+all-refuse : (m gains input before : List ℤ) → allRefuse blockAnswer (blockChecks m gains input before) ≡ true
+unfolding allRefuse
+all-refuse m gains input before = refl
 
--- an accepted call ran its samples, and they were in range
-pub record Ran-it (bands : ℕ) (m gains input : List ℤ) (b : Blocking) : Type 0 where
-  pub is-accept : b ≡ accept bands m gains input
-  pub counted : length gains ≡ bands
-  pub gains-allowed : allWithin (pos 0) (pos 16384) gains ≡ true
-  pub in-range : allWithin least24 most24 input ≡ true
+-- an accepted call ran its samples; they and its gains were in range
+pub record RanIt (m gains input before : List ℤ) : Type 0 where
+  pub is : blockOf m gains input before ≡ record { result = Written (length input); lent = equalised m gains input }
+  pub gains-allowed : allWithin (pos 0) (pos largestGain) gains ≡ true
+  pub in-range : allWithin leastSample mostSample input ≡ true
 
-pub judged-accepts : (bands : ℕ) (m gains input before : List ℤ) (k : ℕ) → judged bands m gains input before .answer ≡ accepted k →
-    Ran-it bands m gains input (judged bands m gains input before)
-judged-accepts bands m gains input before k = first (eqb (length gains) bands) refl
-  where
-    G : Bool
-    G = allWithin (pos 0) (pos 16384) gains
+module _ (m gains input before : List ℤ) where
+  gains-held : allHold (blockChecks m gains input before) ≡ true → allWithin (pos 0) (pos largestGain) gains ≡ true
+  unfolding allHold
+  gains-held h = search (and-left, and-right) depth 12
 
-    S : Bool
-    S = allWithin least24 most24 input
+  input-held : allHold (blockChecks m gains input before) ≡ true → allWithin leastSample mostSample input ≡ true
+  unfolding allHold
+  input-held h = search (and-left, and-right) depth 12
 
-    a : Blocking
-    a = accept bands m gains input
-
-    r : ℕ → Blocking
-    r n = record { answer = refused n; memory = m; output = before }
-
-    fifth : length gains ≡ bands → G ≡ true → (t : Bool) → S ≡ t → cond (not t) (r 8) a .answer ≡ accepted k → Ran-it bands m gains input (cond (not t) (r 8) a)
-    fifth c g true e q = record { is-accept = refl; counted = c; gains-allowed = g; in-range = e }
-    fifth c g false e q = not-both q
-
-    fourth : length gains ≡ bands → G ≡ true → (t : Bool) → cond (not t) (r 7) (cond (not S) (r 8) a) .answer ≡ accepted k → Ran-it bands m gains input (cond (not t) (r 7) (cond (not S) (r 8) a))
-    fourth c g true q = fifth c g S refl q
-    fourth c g false q = not-both q
-
-    third : length gains ≡ bands → G ≡ true → (t : Bool) → cond (not t) (r 6) (cond (not (leb (length input) 4096)) (r 7) (cond (not S) (r 8) a)) .answer ≡ accepted k →
-        Ran-it bands m gains input (cond (not t) (r 6) (cond (not (leb (length input) 4096)) (r 7) (cond (not S) (r 8) a)))
-    third c g true q = fourth c g (leb (length input) 4096) q
-    third c g false q = not-both q
-
-    second : length gains ≡ bands → (t : Bool) → G ≡ t → cond (not t) (r 5) (cond (not (eqb (length before) (length input))) (r 6) (cond (not (leb (length input) 4096)) (r 7) (cond (not S) (r 8) a))) .answer ≡ accepted k →
-        Ran-it bands m gains input (cond (not t) (r 5) (cond (not (eqb (length before) (length input))) (r 6) (cond (not (leb (length input) 4096)) (r 7) (cond (not S) (r 8) a))))
-    second c true e q = third c e (eqb (length before) (length input)) q
-    second c false e q = not-both q
-
-    first : (t : Bool) → eqb (length gains) bands ≡ t → cond (not t) (r 4) (cond (not G) (r 5) (cond (not (eqb (length before) (length input))) (r 6) (cond (not (leb (length input) 4096)) (r 7) (cond (not S) (r 8) a)))) .answer ≡ accepted k →
-        Ran-it bands m gains input (cond (not t) (r 4) (cond (not G) (r 5) (cond (not (eqb (length before) (length input))) (r 6) (cond (not (leb (length input) 4096)) (r 7) (cond (not S) (r 8) a)))))
-    first true e q = second (eqb-true (length gains) bands e) G refl q
-    first false e q = not-both q
-
--- .. whatever the memory was
-pub accepted-in-range : (kept : Kept) (m gains input before : List ℤ) (k : ℕ) → blockAt kept m gains input before .answer ≡ accepted k → allWithin least24 most24 input ≡ true
-accepted-in-range (Bands bands) m gains input before k e = judged-accepts bands m gains input before k e .in-range
-accepted-in-range CountWrong m gains input before k e = not-both e
-accepted-in-range LengthWrong m gains input before k e = not-both e
-accepted-in-range PositionOutside m gains input before k e = not-both e
+  pub accepted-ran : (k : ℕ) → blockAnswer (blockOf m gains input before .result) ≡ accepted k → RanIt m gains input before
+  accepted-ran k e =
+      let cs = blockChecks m gains input before in
+      let after = equalised m gains input in
+      let held : allHold cs ≡ true = accepted-holds blockAnswer cs (m, before) after (Written (length input)) k (all-refuse m gains input before) e in
+      record { is = all-accept (m, before) after (Written (length input)) cs held; gains-allowed = gains-held held; in-range = input-held held }
 
 -- ---- the samples of accepted calls are in range, so no line's value is ever limited
 
-sample-small : (z : ℤ) → within least24 most24 z ≡ true → natAbs z ≤ largestSample
-sample-small z e = omega (arith, about z, within-parts least24 most24 z e)
+sample-small : (z : ℤ) → within leastSample mostSample z ≡ true → natAbs z ≤ largestSample
+sample-small z e = omega (arith, about z, within-parts leastSample mostSample z e)
 
-all-small : (xs : List ℤ) → allWithin least24 most24 xs ≡ true → (k : ℕ) → natAbs (signalOf xs k) ≤ largestSample
+all-small : (xs : List ℤ) → allWithin leastSample mostSample xs ≡ true → (k : ℕ) → natAbs (signalOf xs k) ≤ largestSample
 all-small xs e k = by (decLt k (length xs))
   where
     by : Dec (k < length xs) → natAbs (signalOf xs k) ≤ largestSample
-    by (yes h) = sample-small (getD xs k (pos 0)) (all-at least24 most24 xs e k h)
+    by (yes h) = sample-small (getD xs k (pos 0)) (all-at leastSample mostSample xs e k h)
     by (no n) = rw (List·getD-eq-default xs (pos 0) {n = k} (omega arith)) (omega arith)
 
 -- two lists that are small are small when joined
@@ -117,8 +88,8 @@ unfolding AllAccepted joined
 samples-small m [] a k = omega arith
 samples-small m (c ∷ cs) a k =
     append-small (c .input) (joined cs)
-    (all-small (c .input) (accepted-in-range (keptOf m) m (c .gains) (c .input) (c .before) (length (c .input)) (a .0)))
-    (samples-small (blockOf m (c .gains) (c .input) (c .before) .memory) cs (a .1)) k
+    (all-small (c .input) (accepted-ran m (c .gains) (c .input) (c .before) (length (c .input)) (a .0) .in-range))
+    (samples-small (afterCall m c) cs (a .1)) k
 
 pub free-always : (x : Signal) → ((k : ℕ) → natAbs (x k) ≤ largestSample) → (b j n : ℕ) → b + j ≤ 10 → Free x b j n
 unfolding Free Unlimited
@@ -136,12 +107,6 @@ pub record State (M : ℕ) (x : Signal) (n : ℕ) (m : List ℤ) : Type 0 where
   pub memory-is : m ≡ pos M ∷ pos at ∷ lines
   pub region : Region published M (lineLength M) at 1 lines
   pub holds : Holds x M 0 (lineLength M) at lines n
-
-kept-is : (M at : ℕ) (lines : List ℤ) → 2 ≤ M → Region published M (lineLength M) at 1 lines → keptOf (pos M ∷ pos at ∷ lines) ≡ Bands M
-kept-is M at lines l r =
-    let m : List ℤ = pos M ∷ pos at ∷ lines in
-    let allowed : countAllowed (pos M) ≡ true = rw (le-leb 2 M l, le-leb M 10 (r .few)) in
-    sym (kept-bands m (λ e. omega arith) allowed (omega (arith, r .whole)) (le-ltb at 0 (omega arith)) (r .inside))
 
 -- prepared memory holds the empty history
 pub prepared-holds : (M : ℕ) (x : Signal) → 2 ≤ M → M ≤ 10 → State M x 0 (prepared M)
@@ -176,27 +141,26 @@ unfolding output
 out-is M g x n h = ap outOf (sym (recursive-form published M g x n h))
 
 -- what an accepted call leaves
-pub record Called (M : ℕ) (x : Signal) (n : ℕ) (gains input : List ℤ) (b : Blocking) : Type 0 where
-  pub outputs-are : b .output ≡ from n (length input) (output published M (λ _. gainOf gains) x)
-  pub state : State M x (n + length input) (b .memory)
+pub record Called (M : ℕ) (x : Signal) (n : ℕ) (gains input memory outputs : List ℤ) : Type 0 where
+  pub outputs-are : outputs ≡ from n (length input) (output published M (λ _. gainOf gains) x)
+  pub state : State M x (n + length input) memory
 
 pub from-ext : (n k : ℕ) {f g : ℕ → ℤ} → ((i : ℕ) → n ≤ i → i < n + k → f i ≡ g i) → from n k f ≡ from n k g
 unfolding from
 from-ext n zero e = refl
 from-ext n (suc k) e = ap₂ (λ (u : ℤ) (v : List ℤ). u ∷ v) (e n (omega arith) (omega arith)) (from-ext (n + 1) k (λ i l h. e i (omega arith) (omega arith)))
 
-pub call-keeps : (M : ℕ) (x : Signal) (n : ℕ) (m gains input before : List ℤ) → 2 ≤ M → ((k : ℕ) → Free x M 0 k) → State M x n m →
-    blockOf m gains input before .answer ≡ accepted (length input) → ((i : ℕ) → i < length input → getD input i (pos 0) ≡ x (n + i)) →
-    Called M x n gains input (blockOf m gains input before)
-call-keeps M x n m gains input before l free s a e =
-    let m' : List ℤ = pos M ∷ pos (s .at) ∷ s .lines in
-    let kept : keptOf m' ≡ Bands M = kept-is M (s .at) (s .lines) l (s .region) in
-    let is : blockOf m gains input before ≡ judged M m' gains input before =
-    ap (λ (q : List ℤ). blockOf q gains input before) (s .memory-is) ∙ ap (λ (q : Kept). blockAt q m' gains input before) kept in
-    let ran = judged-accepts M m' gains input before (length input) (sym (ap (λ (b : Blocking). b .answer) is) ∙ a) in
+pub call-keeps : (M : ℕ) (x : Signal) (n : ℕ) (m : List ℤ) (c : Call) → 2 ≤ M → ((k : ℕ) → Free x M 0 k) → State M x n m →
+    blockAnswer (called m c .result) ≡ accepted (length (c .input)) → ((i : ℕ) → i < length (c .input) → getD (c .input) i (pos 0) ≡ x (n + i)) →
+    Called M x n (c .gains) (c .input) (called m c .lent .0) (called m c .lent .1)
+call-keeps M x n m c l free s a e =
+    let gains = c .gains in
+    let input = c .input in
     let k = run-keeps x M (lineLength M) (gainOf gains) free input (s .lines) (s .at) n (s .region) (s .holds) e in
     let r = run published M (lineLength M) (gainOf gains) (s .lines) (s .at) input in
-    subst (λ (b : Blocking). Called M x n gains input b) (sym (is ∙ ran .is-accept))
+    let is : called m c .lent ≡ (pos M ∷ pos (r .position) ∷ r .places, r .outputs) =
+    ap (λ (o : Outcome Blocked (List ℤ × List ℤ)). o .lent) (accepted-ran m gains input (c .before) (length input) a .is) ∙ ap (λ (q : List ℤ). equalised q gains input) (s .memory-is) in
+    subst (λ (p : List ℤ × List ℤ). Called M x n gains input (p .0) (p .1)) (sym is)
     (record {
       outputs-are = k .outputs-are ∙ from-ext n (length input) (λ i _ _. out-is M (λ _. gainOf gains) x i (omega arith));
       state = record { at = r .position; lines = r .places; memory-is = refl; region = k .region; holds = k .holds };

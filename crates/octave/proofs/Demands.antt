@@ -9,7 +9,9 @@ use lib.ListN.{length, length-append, List·getD-eq-default}
 use lib.IntN.{ℤ, pos, negℤ, natAbs, _-ℤ_, _*ℤ_}
 use lib.Signed.{_<ℤ_, leZ-yes}
 use Rattle.whole.specs.Nearest.{nearest}
-use Rattle.whole.specs.Limit.{limit, least24, most24, least32, most32}
+use Rattle.answers.specs.Unit.{leastSample, mostSample, leastPlace, mostPlace, largestGain}
+use Rattle.answers.proofs.Ranges.{all-at}
+use Rattle.whole.specs.Limit.{limit}
 use Rattle.whole.proofs.Signed.{var, lit, le-by}
 use Rattle.tree.specs.Prototype.{published}
 use Rattle.tree.specs.Signal.{back, signalOf, gainOf}
@@ -21,44 +23,34 @@ use Rattle.tree.proofs.Farthest.{never-past-302}
 use Rattle.tree.proofs.EqualGains.{equal-gains}
 use Rattle.tree.proofs.Reach.{reach, published-reach, published-low-pass-never-limited}
 use Rattle.tree.proofs.NoCrack.{above-stays-above, below-stays-below}
-use Rattle.octave.specs.declared.memory.Kept.{Kept}
-use Rattle.octave.specs.declared.memory.Kept.the-variants.{Bands, CountWrong, LengthWrong, PositionOutside}
-use Rattle.octave.specs.Range.{allWithin}
-use Rattle.octave.specs.Answer.{accepted}
-use Rattle.octave.specs.Memory.{prepared, keptOf}
-use Rattle.octave.specs.Block.{blockAt, blockOf}
-use Rattle.octave.specs.History.{Call, AllAccepted, joined, carried, written, exact}
-use Rattle.octave.proofs.Ranges.{within-parts, all-at}
-use Rattle.octave.proofs.Calls.{not-both, judged-accepts, samples-small}
+use Rattle.answers.specs.Range.{allWithin}
+use Rattle.octave.specs.Memory.{prepared}
+use Rattle.octave.specs.History.{Call, afterCall, AllAccepted, joined, carried, written, exact}
+use Rattle.octave.proofs.Ranges.{within-parts}
+use Rattle.octave.proofs.Calls.{accepted-ran, samples-small}
 use Rattle.octave.proofs.WholeHistory.{output-at, carried-here, carried-later}
 
 -- ---- the gains of accepted calls are allowed
 
-accepted-gains : (kept : Kept) (m gains input before : List ℤ) (k : ℕ) → blockAt kept m gains input before .answer ≡ accepted k → allWithin (pos 0) (pos 16384) gains ≡ true
-accepted-gains (Bands bands) m gains input before k e = judged-accepts bands m gains input before k e .gains-allowed
-accepted-gains CountWrong m gains input before k e = not-both e
-accepted-gains LengthWrong m gains input before k e = not-both e
-accepted-gains PositionOutside m gains input before k e = not-both e
-
-gain-is : (gains : List ℤ) → allWithin (pos 0) (pos 16384) gains ≡ true → (m : ℕ) → IsGain (gainOf gains m)
+gain-is : (gains : List ℤ) → allWithin (pos 0) (pos largestGain) gains ≡ true → (m : ℕ) → IsGain (gainOf gains m)
 gain-is gains e m = by (decLt (m - 1) (length gains))
   where
     by : Dec (m - 1 < length gains) → IsGain (gainOf gains m)
     by (yes h) =
-        let p = within-parts (pos 0) (pos 16384) (gainOf gains m) (all-at (pos 0) (pos 16384) gains e (m - 1) h) in
-        record { least = le-by (lit 0) (var (gainOf gains m)) (p .0); most = le-by (var (gainOf gains m)) (lit 16384) (p .1) }
+        let p = within-parts (pos 0) (pos largestGain) (gainOf gains m) (all-at (pos 0) (pos largestGain) gains e (m - 1) h) in
+        record { least = le-by (lit 0) (var (gainOf gains m)) (p .0); most = le-by (var (gainOf gains m)) (lit largestGain) (p .1) }
     by (no n) =
         rw (List·getD-eq-default gains (pos 0) {n = m - 1} (omega arith)) (record { least = leZ-yes tt; most = leZ-yes tt })
 
 pub carried-allowed : (m : List ℤ) (cs : List Call) → AllAccepted m cs → (n : ℕ) → n < length (joined cs) → (k : ℕ) → IsGain (carried cs n k)
 unfolding AllAccepted joined
 carried-allowed m [] a n h k = absurd (omega arith)
-carried-allowed m (c ∷ cs) a n h k = by (decLt n (length (c .input))) (λ l. carried-allowed (blockOf m (c .gains) (c .input) (c .before) .memory) cs (a .1) (n - length (c .input)) l k)
+carried-allowed m (c ∷ cs) a n h k = by (decLt n (length (c .input))) (λ l. carried-allowed (afterCall m c) cs (a .1) (n - length (c .input)) l k)
   where
     by : Dec (n < length (c .input)) → (n - length (c .input) < length (joined cs) → IsGain (carried cs (n - length (c .input)) k)) → IsGain (carried (c ∷ cs) n k)
     by (yes l) rest =
         subst IsGain (sym (carried-here c cs n k l))
-        (gain-is (c .gains) (accepted-gains (keptOf m) m (c .gains) (c .input) (c .before) (length (c .input)) (a .0)) k)
+        (gain-is (c .gains) (accepted-ran m (c .gains) (c .input) (c .before) (length (c .input)) (a .0) .gains-allowed) k)
     by (no q) rest = subst IsGain (sym (carried-later c cs n k (omega arith))) (rest (omega (arith, length-append (c .input) (joined cs))))
 
 -- ---- the 32-bit limit
@@ -70,7 +62,7 @@ module _ (m : List ℤ) (cs : List Call) (all : AllAccepted m cs) (n : ℕ) wher
   line-within j = published-reach (signalOf (joined cs)) n (λ k _. samples-small m cs all k) j
 
   pub limit-never-acts : (j : ℕ) → j < 9 →
-      limit least32 most32 (lowPass published (2 ^ j) (level published j (signalOf (joined cs))) n) ≡ lowPass published (2 ^ j) (level published j (signalOf (joined cs))) n
+      limit leastPlace mostPlace (lowPass published (2 ^ j) (level published j (signalOf (joined cs))) n) ≡ lowPass published (2 ^ j) (level published j (signalOf (joined cs))) n
   limit-never-acts = published-low-pass-never-limited (signalOf (joined cs)) n (λ k _. samples-small m cs all k)
 
 -- ---- the demands, for the output at n of accepted calls from prepared memory
@@ -92,7 +84,7 @@ module _ (M : ℕ) (least : 2 ≤ M) (most : M ≤ 10) (cs : List Call) (all : A
 
   -- demand 3: "Equal gains: that gain times the input, late by the stated delay, rounded once, limited."
   pub written-equal : (G : ℤ) → ((m : ℕ) → 1 ≤ m → m ≤ M → carried cs n m ≡ G) →
-      written M cs n ≡ limit least24 most24 (nearest 4096 (G *ℤ back (signalOf (joined cs)) n (delay published M)))
+      written M cs n ≡ limit leastSample mostSample (nearest 4096 (G *ℤ back (signalOf (joined cs)) n (delay published M)))
   written-equal G e = is ∙ equal-gains published M G (carried cs) (signalOf (joined cs)) n (omega arith) e
 
   -- no crack: a loud sample never turns over

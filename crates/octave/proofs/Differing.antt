@@ -17,7 +17,7 @@ use Rattle.whole.proofs.Magnitude.{abs-+ℤ, abs--ℤ, abs-*ℤ}
 use Rattle.whole.proofs.Product.{widens}
 use Rattle.whole.proofs.Rounded.{raw}
 use Rattle.tree.specs.Signal.{gainOf}
-use Rattle.octave.specs.Step.{Differ, Small}
+use Rattle.octave.specs.Helpers.{Differ, Small}
 
 -- a difference times a place
 pub part-small : (d a : ℤ) → natAbs d ≤ 2 ^ 15 → SFits w32 a → natAbs (d *ℤ a) ≤ 2 ^ 46

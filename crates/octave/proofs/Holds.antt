@@ -10,15 +10,17 @@ use lib.ListN.{take, drop, set, length-set}
 use lib.Seq.{drop-at, length-take-le}
 use lib.IntN.{ℤ, pos, _+ℤ_, _-ℤ_, _*ℤ_}
 use Rattle.whole.specs.Nearest.{nearest}
-use Rattle.whole.specs.Limit.{limit, least32, most32}
+use Rattle.answers.specs.Unit.{leastPlace, mostPlace}
+use Rattle.whole.specs.Limit.{limit}
 use Rattle.whole.proofs.Sums.{sum-ext}
 use Rattle.tree.specs.Prototype.{scale, coefficient, published}
 use Rattle.tree.specs.Signal.{Signal, back}
 use Rattle.tree.specs.Tree.{weighted, lowPass, level}
 use Rattle.tree.specs.Forms.{treeDelay, treeSum}
 use Rattle.tree.proofs.Back.{back-zero}
-use Rattle.octave.specs.Line.{ago, tap, lineSum, lowValue, Within}
-use Rattle.octave.specs.Step.{Stepped, step, Region}
+use Rattle.octave.specs.Line.{ago, tap, lineSum, lowValue}
+use Rattle.octave.specs.Step.{Stepped, step}
+use Rattle.octave.specs.Helpers.{Within, Region}
 use Rattle.octave.specs.Run.{next}
 use Rattle.octave.proofs.Rings.{Shows, shows-next}
 use Rattle.octave.proofs.Regions.{within, less-one, region-below, rest-is}
@@ -42,13 +44,13 @@ line-sum-is line size at L s n w shows =
 
 -- where the 32-bit limit does not act, the new value is the low-pass
 unfoldable pub Unlimited : ℕ → Signal → ℕ → Type 0
-Unlimited L s n = limit least32 most32 (lowPass published L s n) ≡ lowPass published L s n
+Unlimited L s n = limit leastPlace mostPlace (lowPass published L s n) ≡ lowPass published L s n
 
 low-value-is : (line : List ℤ) (size at L : ℕ) (s : Signal) (n : ℕ) → Within line size at L → Shows line size at s n → Unlimited L s n →
     lowValue published line size at L (s n) ≡ lowPass published L s n
 unfolding lowValue lowPass Unlimited
 low-value-is line size at L s n w shows u =
-    ap (λ (z : ℤ). limit least32 most32 (nearest scale z)) (line-sum-is line size at L s n w shows) ∙ u
+    ap (λ (z : ℤ). limit leastPlace mostPlace (nearest scale z)) (line-sum-is line size at L s n w shows) ∙ u
 
 -- the aligned sample of a line that shows a signal
 late-shown : (b size at L : ℕ) (lines : List ℤ) (s : Signal) (n : ℕ) → Region published (suc (suc b)) size at L lines → Within lines size at L →

@@ -6,7 +6,7 @@ pub mod Differing
 pub mod Stepping
 pub mod Ranges
 pub mod Layouts
-pub mod Keeping
+pub mod Memories
 pub mod Running
 pub mod Blocking
 pub mod Rings
@@ -15,5 +15,5 @@ pub mod Samples
 pub mod Calls
 pub mod WholeHistory
 pub mod Demands
-pub mod OneAnswer
 pub mod ThrownOut
+pub mod RefusedBetween

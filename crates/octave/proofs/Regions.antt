@@ -9,8 +9,7 @@ use lib.ListN.{length, take, drop, set, length-drop}
 use lib.Seq.{take-all, drop-set-lt}
 use lib.IntN.{ℤ}
 use Rattle.tree.specs.Prototype.{published}
-use Rattle.octave.specs.Line.{Within}
-use Rattle.octave.specs.Step.{Region}
+use Rattle.octave.specs.Helpers.{Within, Region}
 
 pub less-one : (b : ℕ) → suc (suc b) - 1 ≡ suc b
 less-one b = omega arith

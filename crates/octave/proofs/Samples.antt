@@ -13,7 +13,8 @@ use Rattle.tree.specs.Signal.{Signal}
 use Rattle.tree.specs.Tree.{level}
 use Rattle.tree.specs.Forms.{treeSum}
 use Rattle.octave.specs.Line.{lowValue}
-use Rattle.octave.specs.Step.{step, Region}
+use Rattle.octave.specs.Step.{step}
+use Rattle.octave.specs.Helpers.{Region}
 use Rattle.octave.specs.Run.{next, outOf, Ran, answered, run}
 use Rattle.octave.specs.History.{from}
 use Rattle.octave.proofs.Rings.{shows-none}

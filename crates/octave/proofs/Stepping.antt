@@ -20,7 +20,8 @@ use Rattle.tree.specs.Prototype.{published}
 use Rattle.tree.specs.Forms.{treeDelay}
 use Rattle.whole.specs.Nearest.{nearest}
 use Rattle.octave.specs.Line.{ago, lineSum, lowValue}
-use Rattle.octave.specs.Step.{step, Region, Small, Done}
+use Rattle.octave.specs.Step.{step}
+use Rattle.octave.specs.Helpers.{Region, Small, StepDone}
 use Rattle.octave.proofs.Differing.{part-small}
 use Rattle.octave.proofs.Regions.{less-one, rest-is, within}
 
@@ -39,7 +40,7 @@ one-more s h k late a =
 -- ---- a line and the tree below
 
 -- the sum from below leaves room for one more line
-pub below-small : {b size at L : ℕ} {ds lines ys : List ℤ} {x r : ℤ} → b ≤ 10 → Done published b size at L ds lines x ys r → natAbs (raw w64 r) ≤ 2 ^ 61
+pub below-small : {b size at L : ℕ} {ds lines ys : List ℤ} {x r : ℤ} → b ≤ 10 → StepDone published b size at L ds lines x ys r → natAbs (raw w64 r) ≤ 2 ^ 61
 below-small {r = r} h done = rw (toZ-ofZ {w = w64} {z = r} (record { sfits = omega (arith, about r, done .bounded) })) (omega (arith, done .bounded))
 
 -- the tree's delay is what `aligned` reads: all of the ring but 9·L
@@ -66,7 +67,7 @@ module _ (size at L : ℕ) (ds lines : List ℤ) (x low late : ℤ) (sm : Small 
   pub two-here : (s r : ℤ) → Region published 2 size at L lines → SFits w32 (getD ds 0 (pos 0)) → SFits w32 (getD ds 1 (pos 0)) →
       late ≡ ago lines size at (size - 9 * L) →
       s ≡ pos 0 +ℤ raw w32 (getD ds 0 (pos 0)) *ℤ raw w32 low → r ≡ raw w64 s +ℤ raw w32 (getD ds 1 (pos 0)) *ℤ raw w32 late →
-      Done published 2 size at L ds lines x (set lines at x) (raw w64 r)
+      StepDone published 2 size at L ds lines x (set lines at x) (raw w64 r)
   unfolding step
   two-here s r g f0 f1 elate es er =
       let d0 = getD ds 0 (pos 0) in
@@ -91,16 +92,16 @@ module _ (size at L : ℕ) (ds lines : List ℤ) (x low late : ℤ) (sm : Small 
   -- a line's step, with its sample as it stands
   pub joined-here : (bands : ℕ) (ys : List ℤ) (s r : ℤ) → 2 ≤ bands → Region published bands size at L lines → SFits w32 (getD ds (bands - 1) (pos 0)) →
       late ≡ ago lines size at (size - 9 * L) →
-      Done published (bands - 1) size at (2 * L) ds (take (length (set lines at x) - size) (drop size (set lines at x))) (raw w32 low) ys s →
+      StepDone published (bands - 1) size at (2 * L) ds (take (length (set lines at x) - size) (drop size (set lines at x))) (raw w32 low) ys s →
       r ≡ raw w64 s +ℤ raw w32 (getD ds (bands - 1) (pos 0)) *ℤ raw w32 late →
-      Done published bands size at L ds lines x (putMid size (length (set lines at x) - size) (set lines at x) ys) (raw w64 r)
+      StepDone published bands size at L ds lines x (putMid size (length (set lines at x) - size) (set lines at x) ys) (raw w64 r)
   unfolding step
   joined-here zero ys s r n g fd elate d e = absurd (omega arith)
   joined-here (suc zero) ys s r n g fd elate d e = absurd (omega arith)
   joined-here (suc (suc b)) ys s r n g fd elate d e =
       let D = getD ds (suc (suc b) - 1) (pos 0) in
       let y = lowValue published lines size at L x in
-      let done : Done published (suc b) size at (2 * L) ds (drop size lines) y ys s = rw (low-is, rest-is size at lines x (g .inside), less-one b) at d in
+      let done : StepDone published (suc b) size at (2 * L) ds (drop size lines) y ys s = rw (low-is, rest-is size at lines x (g .inside), less-one b) at d in
       let s-back : raw w64 s ≡ s = toZ-ofZ (record { sfits = omega (arith, about s, done .bounded, g .few) }) in
       let r-is : r ≡ s +ℤ D *ℤ late = e ∙ ap₂ _+ℤ_ s-back (ap₂ _*ℤ_ (toZ-ofZ fd) (toZ-ofZ fl)) in
       let small : natAbs r ≤ suc (suc b) * 2 ^ 46 =
@@ -131,14 +132,14 @@ module _ (bands size at L : ℕ) (ds lines : List ℤ) (x low late : ℤ) (g : R
     (elow : low ≡ lowValue published lines size at L (raw w32 x)) (elate : late ≡ ago lines size at (size - 9 * L)) where
   pub two : (s r : ℤ) → bands ≡ 2 → SFits w32 (getD ds 0 (pos 0)) → SFits w32 (getD ds 1 (pos 0)) →
       s ≡ pos 0 +ℤ raw w32 (getD ds 0 (pos 0)) *ℤ raw w32 low → r ≡ raw w64 s +ℤ raw w32 (getD ds 1 (pos 0)) *ℤ raw w32 late →
-      Done published bands size at L ds lines x (set lines at (raw w32 x)) (raw w64 r)
+      StepDone published bands size at L ds lines x (set lines at (raw w32 x)) (raw w64 r)
   two s r is f0 f1 es er =
       rw (toZ-ofZ fx, is) (two-here size at L ds lines x low late sm fl (rw (toZ-ofZ fx) at elow) s r (rw is at g) f0 f1 elate es er)
 
   pub joined : (ys : List ℤ) (s r : ℤ) → 2 ≤ bands → SFits w32 (getD ds (bands - 1) (pos 0)) →
-      Done published (bands - 1) size at (2 * L) ds (take (length (set lines at (raw w32 x)) - size) (drop size (set lines at (raw w32 x)))) (raw w32 low) ys s →
+      StepDone published (bands - 1) size at (2 * L) ds (take (length (set lines at (raw w32 x)) - size) (drop size (set lines at (raw w32 x)))) (raw w32 low) ys s →
       r ≡ raw w64 s +ℤ raw w32 (getD ds (bands - 1) (pos 0)) *ℤ raw w32 late →
-      Done published bands size at L ds lines x (putMid size (length (set lines at (raw w32 x)) - size) (set lines at (raw w32 x)) ys) (raw w64 r)
+      StepDone published bands size at L ds lines x (putMid size (length (set lines at (raw w32 x)) - size) (set lines at (raw w32 x)) ys) (raw w64 r)
   joined ys s r n fd d e =
       rw (toZ-ofZ fx)
       (joined-here size at L ds lines x low late sm fl (rw (toZ-ofZ fx) at elow) bands ys s r n g fd elate (rw (toZ-ofZ fx) at d) e)

@@ -1,4 +1,4 @@
--- 01, What the promises say: "These five have to be thrown out". Each with a witness on which the promise that it names fails.
+-- The five misbuilds of rule 13.12, each with a witness on which the promise that it names fails.
 -- The witnesses are two bands, gains (4,096, 0) or (0, 4,096), and one loud sample. Assumes nothing.
 use mathlib.Core.Path.{_≡_, sym, ap, _∙_}
 use mathlib.Core.List.{List, [], _∷_}
@@ -14,16 +14,18 @@ use Rattle.tree.specs.Signal.{Signal, back, signalOf, gainOf}
 use Rattle.tree.specs.Tree.{weighted, band, holdBack, gainSum, delay}
 use Rattle.tree.specs.Exact.{commonScale, exactLevel, exactOutput, farthest}
 use Rattle.tree.specs.Edges.{AllowedGains}
-use Rattle.octave.specs.declared.memory.Kept.{Kept}
-use Rattle.octave.specs.declared.memory.Kept.the-variants.{Bands, CountWrong, LengthWrong, PositionOutside}
-use Rattle.octave.specs.Range.{allWithin}
-use Rattle.octave.specs.Answer.{accepted, refused}
-use Rattle.octave.specs.Memory.{prepared, keptOf}
+use Rattle.answers.specs.Answer.{accepted, numberIn}
+use Rattle.answers.specs.Checks.{allHold, Outcome, decide, Done}
+use Rattle.answers.specs.Range.{firstOutside}
+use Rattle.octave.specs.declared.block.Blocked.{Blocked}
+use Rattle.octave.specs.declared.block.Blocked.the-variants.{Written}
+use Rattle.octave.specs.Answer.{blockAnswer}
+use Rattle.octave.specs.Memory.{prepared}
 use Rattle.octave.specs.Line.{tap, lineSum, lowValue}
 use Rattle.octave.specs.Step.{step}
 use Rattle.octave.specs.Run.{answered, run}
-use Rattle.octave.specs.Block.{Blocking, blockAt, blockOf, BlockDone}
-use Rattle.octave.proofs.Calls.{not-both, judged-accepts}
+use Rattle.octave.specs.Block.{blockOf}
+use Rattle.octave.proofs.Calls.{accepted-ran}
 
 -- the low band alone, and the high band alone
 abbrev low-alone : List ℤ
@@ -32,13 +34,13 @@ low-alone = pos 4096 ∷ pos 0 ∷ []
 abbrev high-alone : List ℤ
 high-alone = pos 0 ∷ pos 4096 ∷ []
 
--- ---- "refuse everything (demand 1, refusals are exact)": a call without a fault is not refused
+-- ---- refuse everything: a call without a fault is not refused
 
-pub refuse-everything : (k : ℕ) (m o : List ℤ) → BlockDone (blockOf (prepared 2) low-alone [] []) (refused k) m o → ⊥
-unfolding allWithin run
-refuse-everything k m o d = not-both (d .answer-is)
+pub refuse-everything : (r : Blocked) (l : List ℤ × List ℤ) → (numberIn (blockAnswer r) ≡ 0 → ⊥) → Done (blockOf (prepared 2) low-alone [] []) r l → ⊥
+unfolding decide allHold firstOutside run
+refuse-everything r l n d = n (ap (λ (q : Blocked). numberIn (blockAnswer q)) (d .result-is))
 
--- ---- "all zeros, or the delayed input for any gains (demand 3, unequal gains)"
+-- ---- all zeros, or the delayed input for any gains: unequal gains tell them
 
 low-allowed : AllowedGains 2 (λ _. gainOf low-alone) 9
 low-allowed zero l h = absurd (omega arith)
@@ -70,30 +72,28 @@ delayed-input near =
     let h : 4096 * 50000 * 8000000 ≤ farthest * (4096 * commonScale 2) = near 2 (lit≤ tt) (lit≤ tt) (λ _. gainOf high-alone) (signalOf (pos 8000000 ∷ [])) 9 high-allowed in
     omega arith
 
--- ---- "touch nothing (demand 2)": the first output of 100,000 is 313, and not what the output block held
+-- ---- touch nothing: the first output of 100,000 is 313, and not what the output block held
 
-pub touch-nothing : BlockDone (blockOf (prepared 2) low-alone (pos 100000 ∷ []) (pos 0 ∷ [])) (accepted 1) (prepared 2) (pos 0 ∷ []) → ⊥
-unfolding allWithin run answered step lowValue lineSum tap sum
-touch-nothing d = let h : _≡_ {A = ℕ} 0 313 = ap (λ (l : List ℤ). natAbs (getD l 0 (pos 0))) (d .output-is) in omega arith
+pub touch-nothing : Done (blockOf (prepared 2) low-alone (pos 100000 ∷ []) (pos 0 ∷ [])) (Written 1) (prepared 2, pos 0 ∷ []) → ⊥
+unfolding decide allHold firstOutside run answered step lowValue lineSum tap sum
+touch-nothing d = let h : _≡_ {A = ℕ} 0 313 = ap (λ (l : List ℤ × List ℤ). natAbs (getD (l .1) 0 (pos 0))) (d .lent-is) in omega arith
 
--- ---- "filter the first block, then pass samples through (demand 2, whole history)": silence after 100,000 is answered by -1,338 at 2
+-- ---- filter the first block, then pass samples through: silence after 100,000 is answered by -1,338 at 2
 
 -- the memory after the first block
 abbrev filtered : List ℤ
-filtered = blockOf (prepared 2) low-alone (pos 100000 ∷ []) (pos 0 ∷ []) .memory
+filtered = blockOf (prepared 2) low-alone (pos 100000 ∷ []) (pos 0 ∷ []) .lent .0
 
-pub pass-through : (m : List ℤ) → BlockDone (blockOf filtered low-alone (pos 0 ∷ pos 0 ∷ []) (pos 0 ∷ pos 0 ∷ [])) (accepted 2) m (pos 0 ∷ pos 0 ∷ []) → ⊥
-unfolding allWithin run answered step lowValue lineSum tap sum
-pass-through m d = let h : _≡_ {A = ℕ} 0 1338 = ap (λ (l : List ℤ). natAbs (getD l 1 (pos 0))) (d .output-is) in omega arith
+pub pass-through : (m : List ℤ) → Done (blockOf filtered low-alone (pos 0 ∷ pos 0 ∷ []) (pos 0 ∷ pos 0 ∷ [])) (Written 2) (m, pos 0 ∷ pos 0 ∷ []) → ⊥
+unfolding decide allHold firstOutside run answered step lowValue lineSum tap sum
+pass-through m d = let h : _≡_ {A = ℕ} 0 1338 = ap (λ (l : List ℤ × List ℤ). natAbs (getD (l .1) 1 (pos 0))) (d .lent-is) in omega arith
 
--- ---- "invent the number of samples written (the answer is the block length)": for all inputs
+-- ---- invent the number of samples written: it is the block length, for all inputs
 
-answered-length : (kept : Kept) (m gains input before : List ℤ) (k : ℕ) → blockAt kept m gains input before .answer ≡ accepted k → k ≡ length input
-answered-length (Bands bands) m gains input before k e =
-    let a : accepted k ≡ accepted (length input) = sym e ∙ ap (λ (b : Blocking). b .answer) (judged-accepts bands m gains input before k e .is-accept) in cc
-answered-length CountWrong m gains input before k e = not-both e
-answered-length LengthWrong m gains input before k e = not-both e
-answered-length PositionOutside m gains input before k e = not-both e
-
-pub invent-the-number : (memory gains input output m o : List ℤ) (k : ℕ) → (k ≡ length input → ⊥) → BlockDone (blockOf memory gains input output) (accepted k) m o → ⊥
-invent-the-number memory gains input output m o k n d = n (answered-length (keptOf memory) memory gains input output k (sym (d .answer-is)))
+pub invent-the-number : (memory gains input output : List ℤ) (r : Blocked) (l : List ℤ × List ℤ) (k : ℕ) → (k ≡ length input → ⊥) → blockAnswer r ≡ accepted k →
+    Done (blockOf memory gains input output) r l → ⊥
+invent-the-number memory gains input output r l k n a d =
+    let ran = accepted-ran memory gains input output k (sym (ap blockAnswer (d .result-is)) ∙ a) in
+    let e : accepted k ≡ accepted (length input) =
+    sym a ∙ ap blockAnswer (d .result-is) ∙ ap (λ (o : Outcome Blocked (List ℤ × List ℤ)). blockAnswer (o .result)) (ran .is) in
+    n cc

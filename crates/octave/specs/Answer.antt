@@ -1,32 +1,35 @@
--- 01, Refusal numbers: "return only the number, marked as a refusal: no accepted answer equals it". The number and the value of
--- each case of each call's answer.
+-- The number and the value of each case that a call of this crate answers (rule 6.8). The numbers stand here alone.
 use Prim.Native.Nat.{ℕ}
+use Rattle.answers.specs.Answer.{Answer, accepted, refused}
 use Rattle.octave.specs.declared.memory.Length as length
 use Rattle.octave.specs.declared.memory.Prepared as prepared
+use Rattle.octave.specs.declared.memory.Kept as kept
 use Rattle.octave.specs.declared.block.Blocked as blocked
 
-pub data Answer : Type 0 where
-  accepted : ℕ → Answer
-  refused : ℕ → Answer
-
--- the memory length for a band count: "1 band count not 2..10"
-abbrev pub lengthAnswer : length.Length → Answer
+-- rule 6.8, memory length
+abbrev pub lengthAnswer : length.Length → Answer ℕ
 lengthAnswer (length.the-variants.Places n) = accepted n
-lengthAnswer length.the-variants.BandCount = refused 1
+lengthAnswer length.the-variants.BandCount = refused 1 0
 
--- prepare: "1 band count not 2..10; 2 memory length not that count's"
-abbrev pub preparedAnswer : prepared.Prepared → Answer
+-- rule 6.8, prepare
+abbrev pub preparedAnswer : prepared.Prepared → Answer ℕ
 preparedAnswer (prepared.the-variants.Delay t) = accepted t
-preparedAnswer prepared.the-variants.BandCount = refused 1
-preparedAnswer prepared.the-variants.MemoryLength = refused 2
+preparedAnswer prepared.the-variants.BandCount = refused 1 0
+preparedAnswer prepared.the-variants.MemoryLength = refused 2 0
 
--- block: "3 memory not accepted; 4 number of gains is not the count; 5 a gain not 0..16,384; 6 output length differs from input; 7 over
--- 4,096 samples; 8 a sample out of range"; "An accepted call answers the number of samples written"
-abbrev pub blockAnswer : blocked.Blocked → Answer
+-- a lent memory: its bands, or the number that a block call refuses it with
+abbrev pub keptAnswer : kept.Kept → Answer ℕ
+keptAnswer (kept.the-variants.Bands n) = accepted n
+keptAnswer kept.the-variants.CountWrong = refused 3 0
+keptAnswer kept.the-variants.LengthWrong = refused 3 0
+keptAnswer kept.the-variants.PositionOutside = refused 3 0
+
+-- rule 6.8, block
+abbrev pub blockAnswer : blocked.Blocked → Answer ℕ
 blockAnswer (blocked.the-variants.Written n) = accepted n
-blockAnswer blocked.the-variants.Memory = refused 3
-blockAnswer blocked.the-variants.GainCount = refused 4
-blockAnswer blocked.the-variants.Gain = refused 5
-blockAnswer blocked.the-variants.OutputLength = refused 6
-blockAnswer blocked.the-variants.TooLong = refused 7
-blockAnswer blocked.the-variants.Sample = refused 8
+blockAnswer blocked.the-variants.Memory = refused 3 0
+blockAnswer blocked.the-variants.GainCount = refused 4 0
+blockAnswer blocked.the-variants.Gain = refused 5 0
+blockAnswer blocked.the-variants.OutputLength = refused 6 0
+blockAnswer blocked.the-variants.TooLong = refused 7 0
+blockAnswer blocked.the-variants.Sample = refused 8 0

@@ -1,15 +1,18 @@
--- Demand 2: all samples accepted since the memory was prepared, however they were blocked.
+-- Calls one after the other, from some memory on: rules 11.2 to 11.4.
 use mathlib.Core.Path.{_≡_}
-use mathlib.Core.Bool.{cond}
+use mathlib.Core.Bool.{Bool, cond}
 use mathlib.Core.List.{List, [], _∷_, _++_}
 use Prim.Native.Nat.{ℕ, zero, suc, _+_, _-_}
-use lib.Dec.{ltb}
+use lib.Dec.{eqb, ltb}
 use lib.ListN.{length, getD}
 use lib.IntN.{ℤ, pos}
+use Rattle.answers.specs.Answer.{accepted, numberIn}
+use Rattle.answers.specs.Checks.{Outcome}
 use Rattle.tree.specs.Prototype.{published}
 use Rattle.tree.specs.Signal.{signalOf, gainOf}
 use Rattle.tree.specs.Exact.{exactOutput}
-use Rattle.octave.specs.Answer.{accepted}
+use Rattle.octave.specs.declared.block.Blocked.{Blocked}
+use Rattle.octave.specs.Answer.{blockAnswer}
 use Rattle.octave.specs.Memory.{prepared}
 use Rattle.octave.specs.Block.{blockOf}
 
@@ -19,7 +22,19 @@ pub record Call : Type 0 where
   pub input : List ℤ
   pub before : List ℤ
 
--- the memory after some calls, and their outputs joined
+-- what a call does to a memory
+abbrev pub called : List ℤ → Call → Outcome Blocked (List ℤ × List ℤ)
+called m c = blockOf m (c .gains) (c .input) (c .before)
+
+-- the memory after it
+abbrev pub afterCall : List ℤ → Call → List ℤ
+afterCall m c = called m c .lent .0
+
+-- rule 6.6: whether it is accepted; no refusal has the number 0
+abbrev pub isAccepted : List ℤ → Call → Bool
+isAccepted m c = eqb (numberIn (blockAnswer (called m c .result))) 0
+
+-- the memory after some calls, and the outputs of the accepted ones joined
 pub record Played : Type 0 where
   pub memory : List ℤ
   pub output : List ℤ
@@ -27,23 +42,25 @@ pub record Played : Type 0 where
 unfoldable pub played : List ℤ → List Call → Played
 played m [] = record { memory = m; output = [] }
 played m (c ∷ cs) =
-    let b = blockOf m (c .gains) (c .input) (c .before) in
-    let rest = played (b .memory) cs in
-    record { memory = rest .memory; output = b .output ++ rest .output }
+    let rest = played (afterCall m c) cs in
+    record { memory = rest .memory; output = cond (isAccepted m c) (called m c .lent .1 ++ rest .output) (rest .output) }
 
--- every call is accepted: it answers its block length
+-- rule 11.4: the accepted ones among some calls, in their order
+unfoldable pub acceptedOf : List ℤ → List Call → List Call
+acceptedOf m [] = []
+acceptedOf m (c ∷ cs) = cond (isAccepted m c) (c ∷ acceptedOf (afterCall m c) cs) (acceptedOf (afterCall m c) cs)
+
+-- rule 11.2: every call is accepted, with its block length
 unfoldable pub AllAccepted : List ℤ → List Call → Type 0
 AllAccepted m [] = Unit {0}
-AllAccepted m (c ∷ cs) =
-    (blockOf m (c .gains) (c .input) (c .before) .answer ≡ accepted (length (c .input))) ×
-    AllAccepted (blockOf m (c .gains) (c .input) (c .before) .memory) cs
+AllAccepted m (c ∷ cs) = (blockAnswer (called m c .result) ≡ accepted (length (c .input))) × AllAccepted (afterCall m c) cs
 
--- the samples of the calls, joined
+-- rule 11.2: the samples of the calls, joined
 unfoldable pub joined : List Call → List ℤ
 joined [] = []
 joined (c ∷ cs) = c .input ++ joined cs
 
--- 01, The tree: "The gains are those of the call that carried sample n."
+-- rule 3.10: the gains of the call that carried sample n
 unfoldable pub carried : List Call → ℕ → ℕ → ℤ
 carried [] n m = pos 0
 carried (c ∷ cs) n m = cond (ltb n (length (c .input))) (gainOf (c .gains) m) (carried cs (n - length (c .input)) m)
@@ -57,6 +74,6 @@ from n (suc k) f = f n ∷ from (n + 1) k f
 abbrev pub written : ℕ → List Call → ℕ → ℤ
 written M cs n = getD (played (prepared M) cs .output) n (pos 0)
 
--- 4,096·P times the exact output for sample n of those calls
+-- rule 4.5: 4,096·P times the exact output for sample n of those calls
 abbrev pub exact : ℕ → List Call → ℕ → ℤ
 exact M cs n = exactOutput published M (carried cs) (signalOf (joined cs)) n

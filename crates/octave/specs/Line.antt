@@ -1,13 +1,13 @@
 -- A line in the memory: a ring of `size` places, `at` the place of the next sample (docs/LAYOUT.md). Over any prototype p.
-use mathlib.Core.Path.{_≡_}
 use mathlib.Core.Bool.{cond}
 use mathlib.Core.List.{List}
-use Prim.Native.Nat.{ℕ, zero, suc, _+_, _-_, _*_, _^_, _≤_, _<_}
+use Prim.Native.Nat.{ℕ, zero, suc, _+_, _-_, _*_}
 use lib.Dec.{leb}
-use lib.ListN.{length, getD}
-use lib.IntN.{ℤ, pos, natAbs, _*ℤ_}
+use lib.ListN.{getD}
+use lib.IntN.{ℤ, pos, _*ℤ_}
 use Rattle.whole.specs.Nearest.{nearest}
-use Rattle.whole.specs.Limit.{limit, least32, most32}
+use Rattle.answers.specs.Unit.{leastPlace, mostPlace}
+use Rattle.whole.specs.Limit.{limit}
 use Rattle.whole.specs.Sum.{sum}
 use Rattle.tree.specs.Prototype.{Prototype, scale, coefficient, taps}
 
@@ -31,17 +31,4 @@ module _ (p : Prototype) where
 
   -- ".. divided by 100,000 and taken to the nearest whole number"; 01, Line memory: "a new line value beyond 32 bits is limited to 32 bits"
   unfoldable pub lowValue : List ℤ → ℕ → ℕ → ℕ → ℤ → ℤ
-  lowValue line size at L x = limit least32 most32 (nearest scale (lineSum line size at L x))
-
--- what a read of a line's taps asks: the position within the line, the taps within the line, the line within the places
-pub record Within (line : List ℤ) (size at L : ℕ) : Type 0 where
-  pub inside : at < size
-  pub reach : 18 * L ≤ size
-  pub some : 1 ≤ L
-  pub held : size ≤ length line
-  pub small : size ≤ 4608
-
--- what a line's sum answers: the sum, far within 64 bits for any places
-pub record Summed (p : Prototype) (line : List ℤ) (size at L : ℕ) (x r : ℤ) : Type 0 where
-  pub value : r ≡ lineSum p line size at L x
-  pub bounded : natAbs r ≤ 2 ^ 51
+  lowValue line size at L x = limit leastPlace mostPlace (nearest scale (lineSum line size at L x))

@@ -1,68 +1,77 @@
--- 01, Line memory. The layout and each length: docs/LAYOUT.md.
-use mathlib.Core.Path.{_≡_}
+-- The line memory: its length, the prepared one, and which ones are accepted. The layout and each length: docs/LAYOUT.md.
 use mathlib.Core.Bool.{Bool, false, cond}
-use mathlib.Core.List.{List, _∷_}
+use mathlib.Core.List.{List, [], _∷_}
 use Prim.Native.Nat.{ℕ, _+_, _-_, _*_, _^_}
 use lib.Dec.{eqb, ltb}
 use lib.ListN.{length, getD, replicate}
 use lib.Signed.{ltZ}
 use lib.IntN.{ℤ, pos, natAbs}
+use Rattle.answers.specs.Checks.{Check, check, allHold, choose, Outcome, decide}
+use Rattle.answers.specs.Range.{within}
+use Rattle.answers.specs.Unit.{fewestBands, mostBands}
 use Rattle.tree.specs.Prototype.{published}
 use Rattle.tree.specs.Tree.{delay}
+use Rattle.octave.specs.declared.memory.Length.{Length}
+use Rattle.octave.specs.declared.memory.Length.the-variants as place-count
+use Rattle.octave.specs.declared.memory.Prepared.{Prepared}
+use Rattle.octave.specs.declared.memory.Prepared.the-variants.{Delay, BandCount, MemoryLength}
 use Rattle.octave.specs.declared.memory.Kept.{Kept}
 use Rattle.octave.specs.declared.memory.Kept.the-variants.{Bands, CountWrong, LengthWrong, PositionOutside}
-use Rattle.octave.specs.Range.{within}
-use Rattle.octave.specs.Answer.{Answer, accepted, refused}
 
--- the places of a line of M bands: 9·2^(M-1)
+-- rule 5.2: the places of a line of M bands, 9·2^(M-1)
 abbrev pub lineLength : ℕ → ℕ
 lineLength M = published .centre * 2 ^ (M - 1)
 
--- the count, the position, and the lines M down to 2
+-- rule 5.3: the count, the position, and the lines M down to 2
 abbrev pub memoryLength : ℕ → ℕ
 memoryLength M = 2 + (M - 1) * lineLength M
 
--- "the count is 2..10"
+-- rule 1.3: 2 to 10 bands
 abbrev pub countAllowed : ℤ → Bool
-countAllowed = within (pos 2) (pos 10)
+countAllowed = within fewestBands mostBands
 
--- the position is one of the line's places
-abbrev pub positionWithin : ℕ → ℤ → Bool
-positionWithin size at = cond (ltZ at (pos 0)) false (ltb (natAbs at) size)
+-- rule 6.8, memory length
+abbrev pub memoryLengthOf : ℤ → Length
+memoryLengthOf bands = choose (check (countAllowed bands) place-count.BandCount ∷ []) (place-count.Places (memoryLength (natAbs bands)))
 
--- the memory length for a band count: "1 band count not 2..10"
-abbrev pub memoryLengthOf : ℤ → Answer
-memoryLengthOf bands = cond (countAllowed bands) (accepted (memoryLength (natAbs bands))) (refused 1)
-
--- "A call to prepare fills it for an empty history": the count, the position 0, and zeros
+-- rule 5.5: the count, the position 0, and zeros
 abbrev pub prepared : ℕ → List ℤ
 prepared M = pos M ∷ pos 0 ∷ replicate ((M - 1) * lineLength M) (pos 0)
 
--- an answer, and the memory afterwards
-pub record Preparing : Type 0 where
-  pub answer : Answer
-  pub memory : List ℤ
+-- rule 6.8, prepare: its checks in order
+abbrev pub prepareChecks : ℤ → List ℤ → List (Check Prepared)
+prepareChecks bands memory =
+    check (countAllowed bands) BandCount ∷
+    check (eqb (length memory) (memoryLength (natAbs bands))) MemoryLength ∷ []
 
--- ".. and answers the delay t": "1 band count not 2..10; 2 memory length not that count's", else prepared
-abbrev pub prepareOf : ℤ → List ℤ → Preparing
+-- .. and the call: the delay and the prepared memory
+abbrev pub prepareOf : ℤ → List ℤ → Outcome Prepared (List ℤ)
 prepareOf bands memory =
-    cond (countAllowed bands)
-    (cond (eqb (length memory) (memoryLength (natAbs bands)))
-    (record { answer = accepted (delay published (natAbs bands)); memory = prepared (natAbs bands) })
-    (record { answer = refused 2; memory = memory }))
-    (record { answer = refused 1; memory = memory })
+    decide (prepareChecks bands memory) memory (Delay (delay published (natAbs bands))) (prepared (natAbs bands))
 
-pub record PrepareDone (p : Preparing) (answer : Answer) (memory : List ℤ) : Type 0 where
-  pub answer-is : answer ≡ p .answer
-  pub memory-is : memory ≡ p .memory
+-- rule 5.2: the count that a memory holds; 0 where it has no place
+abbrev pub bandsIn : List ℤ → ℕ
+bandsIn memory = natAbs (getD memory 0 (pos 0))
 
--- "A block call accepts it exactly when the count is 2..10, the length is that count's, and each position is within its line."
+-- rule 5.2: the position that a memory holds
+abbrev pub positionIn : List ℤ → ℤ
+positionIn memory = getD memory 1 (pos 0)
+
+-- rule 5.4: 0 ≤ position < places of a line
+abbrev pub positionWithin : ℕ → ℤ → Bool
+positionWithin size at = cond (ltZ at (pos 0)) false (ltb (natAbs at) size)
+
+-- rule 5.4: what a lent memory is judged by, in order
+abbrev pub memoryChecks : List ℤ → List (Check Kept)
+memoryChecks memory =
+    check (countAllowed (getD memory 0 (pos 0))) CountWrong ∷
+    check (eqb (length memory) (memoryLength (bandsIn memory))) LengthWrong ∷
+    check (positionWithin (lineLength (bandsIn memory)) (positionIn memory)) PositionOutside ∷ []
+
+-- rule 5.4: an accepted memory
+abbrev pub accepts : List ℤ → Bool
+accepts memory = allHold (memoryChecks memory)
+
+-- rule 5.4: a memory's bands, or what is wrong with it
 abbrev pub keptOf : List ℤ → Kept
-keptOf memory =
-    let count = getD memory 0 (pos 0) in
-    cond (eqb (length memory) 0) CountWrong
-    (cond (countAllowed count)
-    (cond (eqb (length memory) (memoryLength (natAbs count)))
-    (cond (positionWithin (lineLength (natAbs count)) (getD memory 1 (pos 0))) (Bands (natAbs count)) PositionOutside)
-    LengthWrong)
-    CountWrong)
+keptOf memory = choose (memoryChecks memory) (Bands (bandsIn memory))

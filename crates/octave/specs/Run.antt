@@ -1,14 +1,14 @@
 -- A block's samples through the lines, over any prototype p.
-use mathlib.Core.Path.{_≡_}
 use mathlib.Core.Bool.{cond}
 use mathlib.Core.List.{List, [], _∷_}
-use Prim.Native.Nat.{ℕ, suc, _+_}
+use Prim.Native.Nat.{ℕ, _+_}
 use lib.Dec.{ltb}
-use lib.IntN.{ℤ, pos}
+use lib.IntN.{ℤ}
 use Rattle.whole.specs.Nearest.{nearest}
-use Rattle.whole.specs.Limit.{limit, least24, most24}
+use Rattle.answers.specs.Unit.{leastSample, mostSample}
+use Rattle.whole.specs.Limit.{limit}
 use Rattle.tree.specs.Prototype.{Prototype}
-use Rattle.octave.specs.Step.{step, Differ}
+use Rattle.octave.specs.Step.{step}
 
 -- the place after `at` in a ring
 abbrev pub next : ℕ → ℕ → ℕ
@@ -16,7 +16,7 @@ next size at = cond (ltb (at + 1) size) (at + 1) 0
 
 -- 01, The tree: "divided by 4,096, taken to the nearest whole number with the same tie rule, then limited to the sample range"
 abbrev pub outOf : ℤ → ℤ
-outOf z = limit least24 most24 (nearest 4096 z)
+outOf z = limit leastSample mostSample (nearest 4096 z)
 
 -- the lines' places after one sample, and its output
 pub record Out : Type 0 where
@@ -41,16 +41,3 @@ module _ (p : Prototype) where
       let a = answered bands size at g lines x in
       let r = run bands size g (a .places) (next size at) xs in
       record { places = r .places; position = r .position; outputs = a .sample ∷ r .outputs }
-
-pub record Answered (o : Out) (places : List ℤ) (sample : ℤ) : Type 0 where
-  pub places-are : places ≡ o .places
-  pub sample-is : sample ≡ o .sample
-
--- a sample's output, under the gains whose differences the code goes by
-pub record AnsweredUnder (p : Prototype) (bands size at : ℕ) (differences lines : List ℤ) (x : ℤ) (places : List ℤ) (sample : ℤ) : Type 0 where
-  pub under : (g : ℕ → ℤ) → Differ bands g differences → g (suc bands) ≡ pos 0 → Answered (answered p bands size at g lines x) places sample
-
-pub record RunDone (r : Ran) (places : List ℤ) (position : ℕ) (outputs : List ℤ) : Type 0 where
-  pub places-are : places ≡ r .places
-  pub position-is : position ≡ r .position
-  pub outputs-are : outputs ≡ r .outputs

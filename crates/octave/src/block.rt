@@ -1,11 +1,17 @@
 // The block call.
-ghost use Rattle.octave.specs.Answer.{blockAnswer};
-ghost use Rattle.octave.specs.Block.{blockOf, accept, Judged, Equalised, BlockDone};
+ghost use mathlib.Core.Path.{_≡_};
+ghost use Rattle.answers.specs.Checks.{Done};
+ghost use Rattle.octave.specs.Block.{equalised, blockOf};
+ghost use Rattle.octave.specs.Helpers.{KeptBands, Judged};
 use crate::layout::line_length;
 use crate::memory::Kept;
 use crate::memory::judge;
-use crate::range::all_within;
 use crate::run::run;
+use answers::range::first_outside;
+use answers::unit::BLOCK_LIMIT;
+use answers::unit::LARGEST_GAIN;
+use answers::unit::LEAST_SAMPLE;
+use answers::unit::MOST_SAMPLE;
 
 // What a block answers: how many samples were written, or why it was refused.
 pub enum Blocked {
@@ -21,7 +27,7 @@ pub enum Blocked {
 // The samples through the lines from the position on, and the position afterwards. Everything has been judged.
 fn equalise(memory: &mut [i32], gains: &[i32], input: &[i32], output: &mut [i32], bands: usize)
     requires { ⌜ Judged bands (now memory) (now gains) (now input) (now output) ⌝ }
-    ensures { λ _. ⌜ Equalised (accept bands (now (memory .entry)) (now (gains .entry)) (now (input .entry))) (now (memory .exit)) (now (output .exit)) ⌝ }
+    ensures { λ _. ⌜ (now (memory .exit), now (output .exit)) ≡ equalised (now (memory .entry)) (now (gains .entry)) (now (input .entry)) ⌝ }
 {
     let size = line_length(bands);
     let from = memory[1] as usize;
@@ -29,28 +35,36 @@ fn equalise(memory: &mut [i32], gains: &[i32], input: &[i32], output: &mut [i32]
     memory[1] = at as i32;
 }
 
-// Equalises a block: output sample i answers input sample i. All is judged before anything is written.
-pub fn block(memory: &mut [i32], gains: &[i32], input: &[i32], output: &mut [i32]) -> Blocked
-    ensures { λ r. ⌜ BlockDone (blockOf (now (memory .entry)) (now (gains .entry)) (now (input .entry)) (now (output .entry))) (blockAnswer r) (now (memory .exit)) (now (output .exit)) ⌝ }
+// The call on an accepted memory of `bands` bands. All is judged before anything is written.
+fn block_of(memory: &mut [i32], gains: &[i32], input: &[i32], output: &mut [i32], bands: usize) -> Blocked
+    requires { ⌜ KeptBands bands (now memory) ⌝ }
+    ensures { λ r. ⌜ Done (blockOf (now (memory .entry)) (now (gains .entry)) (now (input .entry)) (now (output .entry))) r (now (memory .exit), now (output .exit)) ⌝ }
 {
-    let Kept::Bands(bands) = judge(memory) else {
-        return Blocked::Memory;
-    };
     if gains.len() != bands {
         return Blocked::GainCount;
     }
-    if !all_within(0, 16384, gains) {
+    if first_outside(0, LARGEST_GAIN, gains) < gains.len() {
         return Blocked::Gain;
     }
     if output.len() != input.len() {
         return Blocked::OutputLength;
     }
-    if 4096 < input.len() {
+    if BLOCK_LIMIT < input.len() {
         return Blocked::TooLong;
     }
-    if !all_within(-8388608, 8388607, input) {
+    if first_outside(LEAST_SAMPLE, MOST_SAMPLE, input) < input.len() {
         return Blocked::Sample;
     }
     equalise(memory, gains, input, output, bands);
     Blocked::Written(input.len())
+}
+
+// Equalises a block: output sample i answers input sample i.
+pub fn block(memory: &mut [i32], gains: &[i32], input: &[i32], output: &mut [i32]) -> Blocked
+    ensures { λ r. ⌜ Done (blockOf (now (memory .entry)) (now (gains .entry)) (now (input .entry)) (now (output .entry))) r (now (memory .exit), now (output .exit)) ⌝ }
+{
+    let Kept::Bands(bands) = judge(memory) else {
+        return Blocked::Memory;
+    };
+    block_of(memory, gains, input, output, bands)
 }

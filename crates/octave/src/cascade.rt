@@ -3,7 +3,7 @@ ghost use mathlib.Core.Path.{_≡_};
 ghost use Prim.Native.Nat.{_≤_, _^_};
 ghost use lib.IntN.{natAbs, _+ℤ_, _*ℤ_};
 ghost use Rattle.tree.specs.Prototype.{published};
-ghost use Rattle.octave.specs.Step.{Region, Small, Done};
+ghost use Rattle.octave.specs.Helpers.{Region, Small, StepDone};
 use crate::line::aligned;
 use crate::line::low_value;
 use whole::products::multiply_add;
@@ -29,7 +29,7 @@ pub(crate) fn step(
     x: i32,
 ) -> i64
     requires { ⌜ Region published bands size at l (now lines) × Small (now differences) × (2 ≤ bands) ⌝ }
-    ensures { λ r. ⌜ Done published bands size at l (now (differences .entry)) (now (lines .entry)) x (now (lines .exit)) r ⌝ }
+    ensures { λ r. ⌜ StepDone published bands size at l (now (differences .entry)) (now (lines .entry)) x (now (lines .exit)) r ⌝ }
 {
     let late = aligned(lines, size, at, l);
     let low = low_value(lines, size, at, l, x);

@@ -4,7 +4,7 @@ ghost use Prim.Native.Nat.{_≤_, _<_, _+_, _^_};
 ghost use lib.ListN.{length, getD};
 ghost use lib.IntN.{pos, natAbs, _-ℤ_};
 ghost use Rattle.tree.specs.Signal.{gainOf};
-ghost use Rattle.octave.specs.Step.{Allowed, Differ, Small};
+ghost use Rattle.octave.specs.Helpers.{Allowed, Differ, Small};
 
 // The gain of a band less that of the band above; the top band has none above.
 fn difference(gains: &[i32], i: usize) -> i32

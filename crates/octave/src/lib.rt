@@ -6,5 +6,4 @@ mod layout;
 mod line;
 mod low;
 pub mod memory;
-mod range;
 mod run;

@@ -3,7 +3,8 @@
 ghost use mathlib.Core.Path.{_≡_};
 ghost use Prim.Native.Nat.{_≤_, _<_, _*_, _-_};
 ghost use Rattle.tree.specs.Prototype.{published};
-ghost use Rattle.octave.specs.Line.{place, ago, lowValue, Within, Summed};
+ghost use Rattle.octave.specs.Line.{place, ago, lowValue};
+ghost use Rattle.octave.specs.Helpers.{Within, Summed};
 use crate::low::weigh;
 use whole::limiting::limit_32;
 use whole::rounding::nearest_100000;

@@ -1,5 +1,5 @@
 // The low-pass sum: eleven products a line, none for a zero coefficient. One function with one contract.
-ghost use Rattle.octave.specs.Low.{Weighed};
+ghost use Rattle.octave.specs.Helpers.{Weighed};
 use whole::products::multiply_add;
 
 // c(0)·x0 + c(2)·x2 + .. + c(18)·x18: the samples at the coefficients that are not 0.

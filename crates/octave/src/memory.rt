@@ -1,10 +1,12 @@
-// The line memory: its length for a band count, and preparing it.
+// The line memory: its length for a band count, preparing it, and judging a lent one.
 ghost use mathlib.Core.Path.{_≡_};
-ghost use Rattle.octave.specs.Answer.{lengthAnswer, preparedAnswer};
-ghost use Rattle.octave.specs.Memory.{memoryLengthOf, prepareOf, PrepareDone, keptOf};
+ghost use Rattle.answers.specs.Checks.{Done};
+ghost use Rattle.octave.specs.Memory.{memoryLengthOf, prepareOf, keptOf};
 use crate::layout::line_length;
 use crate::layout::whole_length;
-use crate::range::within;
+use answers::range::within;
+use answers::unit::FEWEST_BANDS;
+use answers::unit::MOST_BANDS;
 use whole::places::clear;
 
 // How many places a memory has.
@@ -30,9 +32,9 @@ pub enum Kept {
 
 // The memory length for a band count, so that a caller can lend the right number of places.
 pub fn memory_length(bands: i32) -> Length
-    ensures { λ r. ⌜ lengthAnswer r ≡ memoryLengthOf bands ⌝ }
+    ensures { λ r. ⌜ r ≡ memoryLengthOf bands ⌝ }
 {
-    if !within(2, 10, bands) {
+    if !within(FEWEST_BANDS, MOST_BANDS, bands) {
         return Length::BandCount;
     }
     Length::Places(whole_length(bands as usize))
@@ -40,9 +42,9 @@ pub fn memory_length(bands: i32) -> Length
 
 // Fills the memory for an empty history and answers the delay.
 pub fn prepare(bands: i32, memory: &mut [i32]) -> Prepared
-    ensures { λ r. ⌜ PrepareDone (prepareOf bands (now (memory .entry))) (preparedAnswer r) (now (memory .exit)) ⌝ }
+    ensures { λ r. ⌜ Done (prepareOf bands (now (memory .entry))) r (now (memory .exit)) ⌝ }
 {
-    if !within(2, 10, bands) {
+    if !within(FEWEST_BANDS, MOST_BANDS, bands) {
         return Prepared::BandCount;
     }
     let count = bands as usize;
@@ -62,7 +64,7 @@ pub fn judge(memory: &[i32]) -> Kept
         return Kept::CountWrong;
     }
     let bands = memory[0];
-    if !within(2, 10, bands) {
+    if !within(FEWEST_BANDS, MOST_BANDS, bands) {
         return Kept::CountWrong;
     }
     let count = bands as usize;

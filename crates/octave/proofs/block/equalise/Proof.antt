@@ -12,13 +12,13 @@ use mir.Val.{SFits}
 use mir.Facts.{toZ-ofZ, fits-natAbs}
 use Rattle.whole.proofs.Rounded.{raw}
 use Rattle.octave.specs.Run.{run}
-use Rattle.octave.proofs.Keeping.{not-negative}
-use Rattle.octave.proofs.Blocking.{Accepted, accepted-is, region-is, allowed-gains, position-small, equalised}
+use Rattle.octave.proofs.Memories.{not-negative, Accepted, accepted-is}
+use Rattle.octave.proofs.Blocking.{region-is, allowed-gains, position-small, equalised-is}
 use Rattle.octave.proofs.block.equalise.Statement.{statement}
 use Rattle.octave.proofs.block.equalise.Tie as tie
 
 memory-kept : (c : tie.Start) → Accepted (now (c .args .memory)) (c .args .bands)
-memory-kept c = accepted-is (now (c .args .memory)) (c .args .bands) (c .pre .kept)
+memory-kept c = accepted-is (now (c .args .memory)) (c .args .bands) (c .pre .memory-kept .kept) (c .pre .memory-kept .bands-are)
 
 at-fits : (c : tie.After-from) → SFits w32 (getD (now (c .before .before .args .memory)) 1 (pos 0))
 at-fits c = sfits-of (c .from .given)
@@ -87,7 +87,7 @@ returns : tie.Need-returns
 returns c =
     let s = c .before .before .before .before .before .before .before in
     let a = s .args in
-    equalised (a .bands) (c .before .before .before .before .before .before .line-length .result) (natAbs (raw w32 (getD (now (a .memory)) 1 (pos 0)))) (c .before .before .run .result) (now (a .memory))
+    equalised-is (a .bands) (c .before .before .before .before .before .before .line-length .result) (natAbs (raw w32 (getD (now (a .memory)) 1 (pos 0)))) (c .before .before .run .result) (now (a .memory))
     (now (a .gains)) (now (a .input)) (c .before .before .run .last .0) (c .before .before .run .last .1 .1 .1 .1 .1 .1 .0) (memory-kept s) (c .before .before .before .before .before .before .line-length .ensures)
     (from-is (c .before .before .before .before .before)) (c .before .before .run .ensures)
 

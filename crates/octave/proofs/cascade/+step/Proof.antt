@@ -12,7 +12,7 @@ use borrow.Rule.Slice.PartMut.{same-len-mid}
 use borrow.Fn.Kinds.{In}
 use borrow.Fn.PlainCycle.{Measures, is, falls, and}
 use Rattle.whole.proofs.Rounded.{raw}
-use Rattle.octave.specs.Line.{Within}
+use Rattle.octave.specs.Helpers.{Within}
 use Rattle.octave.proofs.Regions.{within, region-below}
 use Rattle.octave.proofs.Stepping.{below-small, first-small, two, joined}
 use Rattle.octave.proofs.cascade.step.Reads as step

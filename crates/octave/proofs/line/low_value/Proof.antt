@@ -2,7 +2,7 @@
 use denote.Ref.{now}
 use borrow.Author.Needs.{needs}
 use Rattle.tree.specs.Prototype.{published}
-use Rattle.octave.specs.Line.{Summed}
+use Rattle.octave.specs.Helpers.{Summed}
 use Rattle.octave.proofs.Taps.{summed-of-raw, sum-in-reach, low-value-is}
 use Rattle.octave.proofs.line.low_value.Statement.{statement}
 use Rattle.octave.proofs.line.low_value.Tie as tie

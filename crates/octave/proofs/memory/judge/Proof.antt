@@ -1,10 +1,10 @@
 -- `memory::judge` meets its contract: each return has the tests that led there. Assumes nothing.
-use mathlib.Core.Path.{_≡_, sym, ap, _∙_}
+use mathlib.Core.Path.{_≡_, refl, ap, _∙_}
 use mathlib.Core.Bool.{true, false}
-use mathlib.Core.List.{List}
+use mathlib.Core.List.{List, [], _∷_}
 use native.Mathlib.Omega.{arith}
 use borrow.Author.Needs.{needs, sfits-of}
-use borrow.Author.Tests.{not-true, not-false}
+use borrow.Author.Tests.{not-true, not-false, lt-ltb, le-ltb}
 use lib.ListN.{length, getD}
 use lib.IntN.{ℤ, pos, natAbs}
 use lib.Signed.{ltZ}
@@ -12,9 +12,13 @@ use denote.Ref.{now}
 use mir.Syntax.{w32}
 use mir.Val.{SFits}
 use mir.Facts.{toZ-ofZ, fits-natAbs}
-use Rattle.octave.specs.Memory.{lineLength, memoryLength, countAllowed}
-use Rattle.octave.proofs.Ranges.{Count, count-of, test-is}
-use Rattle.octave.proofs.Keeping.{kept-none, kept-count, kept-length, kept-negative, kept-outside, kept-bands, not-negative}
+use Rattle.answers.specs.Unit.{fewestBands, mostBands}
+use Rattle.answers.proofs.Laws.{chosen-here, chosen-on, chosen-last}
+use Rattle.answers.proofs.Branches.{branches, within-is}
+use Rattle.octave.specs.declared.memory.Kept.the-variants.{Bands}
+use Rattle.octave.specs.Memory.{lineLength, memoryLength, countAllowed, bandsIn, positionIn, positionWithin}
+use Rattle.octave.proofs.Ranges.{Count, count-of}
+use Rattle.octave.proofs.Memories.{not-negative}
 use Rattle.octave.proofs.memory.judge.Statement.{statement}
 use Rattle.octave.proofs.memory.judge.Tie as tie
 
@@ -29,7 +33,7 @@ count-fits c = sfits-of (c .before .before .bands .given)
 
 allowed : (c : tie.Else2) → countAllowed (getD (the c) 0 (pos 0)) ≡ true
 unfolding the
-allowed c = test-is (pos 2) (pos 10) (count-fits c) (c .before .within .ensures) (not-false (c .before .within .result) (c .if2 .left))
+allowed c = within-is fewestBands mostBands (count-fits c) (c .before .within .ensures) (not-false (c .before .within .result) (c .if2 .left))
 
 counted : (c : tie.Else2) → Count (getD (the c) 0 (pos 0))
 counted c = count-of (getD (the c) 0 (pos 0)) (allowed c)
@@ -57,21 +61,20 @@ size-is c =
 
 -- ---- the needs
 
+-- a memory with no place has no count
+none-allowed : (m : List ℤ) → length m ≡ 0 → countAllowed (getD m 0 (pos 0)) ≡ false
+none-allowed [] e = refl
+none-allowed (x ∷ m) e = absurd (omega arith)
+
 returns : tie.Need-returns
-returns c = kept-none (now (c .before .args .memory)) (c .if1 .taken)
-
-shared-slice-copy-out-bands : tie.Need-shared-slice-copy-out-bands
-shared-slice-copy-out-bands c = search needs
-
-within-requires : tie.Need-within-requires
-within-requires c κs = search needs
+returns c = let e = none-allowed (now (c .before .args .memory)) (c .if1 .taken) in search (chosen-here, branches) depth 12
 
 returns-2 : tie.Need-returns-2
 returns-2 c =
     let m = now (c .before .before .before .before .args .memory) in
-    let f : SFits w32 (getD m 0 (pos 0)) = sfits-of (c .before .before .bands .given) in
-    kept-count m (c .before .before .before .if1 .left)
-    (test-is (pos 2) (pos 10) f (c .before .within .ensures) (not-true (c .before .within .result) (c .if2 .taken)))
+    let e : countAllowed (getD m 0 (pos 0)) ≡ false =
+    within-is fewestBands mostBands {z = getD m 0 (pos 0)} (sfits-of (c .before .before .bands .given)) (c .before .within .ensures) (not-true (c .before .within .result) (c .if2 .taken)) in
+    search chosen-here depth 12
 
 cast-count : tie.Need-cast-count
 unfolding the
@@ -84,8 +87,9 @@ whole-length-requires c κs = rw (toZ-ofZ (count-fits c)) (counted c .least, cou
 returns-3 : tie.Need-returns-3
 unfolding the
 returns-3 c =
-    let e = c .before .before in
-    kept-length (the e) (e .before .before .before .if1 .left) (allowed e) (λ q. c .if3 .taken (q ∙ sym (length-is (c .before))))
+    let e = allowed (c .before .before) in
+    let l = length-is (c .before) in
+    search (chosen-here, chosen-on, branches) depth 12
 
 shared-slice-copy-out-at : tie.Need-shared-slice-copy-out-at
 unfolding the
@@ -94,8 +98,11 @@ shared-slice-copy-out-at c = omega (arith, right c)
 returns-4 : tie.Need-returns-4
 unfolding the
 returns-4 c =
-    let e = c .before .before .before .before in
-    kept-negative (the e) (e .before .before .before .if1 .left) (allowed e) (right (c .before .before)) (rw (toZ-ofZ (at-fits (c .before))) at (c .if4 .taken))
+    let m = the (c .before .before .before .before) in
+    let outside : positionWithin (lineLength (bandsIn m)) (positionIn m) ≡ false = rw (rw (toZ-ofZ (at-fits (c .before))) at (c .if4 .taken)) in
+    let e = allowed (c .before .before .before .before) in
+    let l = right (c .before .before) in
+    search (chosen-here, chosen-on, branches) depth 12
 
 line-length-requires : tie.Need-line-length-requires
 unfolding the
@@ -107,30 +114,38 @@ cast-if5 : tie.Need-cast-if5
 unfolding the
 cast-if5 c =
     let f = at-fits (c .before .before) in
-    rw (toZ-ofZ f) (not-negative (getD (the (c .before .before .before .before .before)) 1 (pos 0)) (not-below (c .before)), fits-natAbs tt f)
+    rw (toZ-ofZ f) (not-negative (positionIn (the (c .before .before .before .before .before))) (not-below (c .before)), fits-natAbs tt f)
 
 returns-5 : tie.Need-returns-5
 unfolding the
 returns-5 c =
-    let e = c .before .before .before .before .before .before in
-    kept-outside (the e) (e .before .before .before .if1 .left) (allowed e) (right (c .before .before .before .before)) (not-below (c .before .before))
-    (rw (toZ-ofZ (at-fits (c .before .before .before)), size-is (c .before)) at (c .if5 .taken))
+    let m = the (c .before .before .before .before .before .before) in
+    let past = rw (toZ-ofZ (at-fits (c .before .before .before)), size-is (c .before)) at (c .if5 .taken) in
+    let outside : positionWithin (lineLength (bandsIn m)) (positionIn m) ≡ false =
+    rw (not-below (c .before .before), le-ltb (natAbs (positionIn m)) (lineLength (bandsIn m)) past) in
+    let e = allowed (c .before .before .before .before .before .before) in
+    let l = right (c .before .before .before .before) in
+    search (chosen-here, chosen-on, branches) depth 12
 
 returns-6 : tie.Need-returns-6
 unfolding the
 returns-6 c =
-    let e = c .before .before .before .before .before .before in
-    rw (toZ-ofZ (count-fits e))
-    (kept-bands (the e) (e .before .before .before .if1 .left) (allowed e) (right (c .before .before .before .before)) (not-below (c .before .before))
-    (rw (toZ-ofZ (at-fits (c .before .before .before)), size-is (c .before)) at (c .if5 .left)))
+    let m = the (c .before .before .before .before .before .before) in
+    let inside = rw (toZ-ofZ (at-fits (c .before .before .before)), size-is (c .before)) at (c .if5 .left) in
+    let within : positionWithin (lineLength (bandsIn m)) (positionIn m) ≡ true =
+    rw (not-below (c .before .before), lt-ltb (natAbs (positionIn m)) (lineLength (bandsIn m)) inside) in
+    let e = allowed (c .before .before .before .before .before .before) in
+    let l = right (c .before .before .before .before) in
+    let is = ap (λ (z : ℤ). Bands (natAbs z)) (toZ-ofZ (count-fits (c .before .before .before .before .before .before))) in
+    search (chosen-on, chosen-last, branches) depth 12
 
 pub judge-spec : {M : Type 1} → statement M
 judge-spec =
     tie.close
     (tie.spec
     returns
-    shared-slice-copy-out-bands
-    within-requires
+    (λ c. search needs)
+    (λ c κs. search needs)
     returns-2
     cast-count
     whole-length-requires

@@ -5,14 +5,14 @@ use lib.Dec.{lit≤}
 use denote.Ref.{now}
 use mir.Facts.{toZ-ofZ}
 use Rattle.tree.specs.Prototype.{published}
-use Rattle.octave.specs.Step.{Done}
+use Rattle.octave.specs.Helpers.{StepDone}
 use Rattle.octave.proofs.Stepping.{below-small}
 use Rattle.octave.proofs.Running.{answer-is}
 use Rattle.octave.proofs.run.answer.Statement.{statement}
 use Rattle.octave.proofs.run.answer.Tie as tie
 
 done : (c : tie.After-step) → let a = c .before .before .args in
-    Done published (a .bands) (a .size) (a .at) 1 (now (a .differences)) (now (a .lines)) (a .x) (c .step .last .0) (c .step .result)
+    StepDone published (a .bands) (a .size) (a .at) 1 (now (a .differences)) (now (a .lines)) (a .x) (c .step .last .0) (c .step .result)
 done c = rw (toZ-ofZ (c .before .before .fits .x)) at (c .step .ensures)
 
 step-requires : tie.Need-step-requires

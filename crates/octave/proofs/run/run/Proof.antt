@@ -10,7 +10,7 @@ use mir.Syntax.{w32}
 use borrow.Author.Needs.{sfits-of}
 use Rattle.whole.proofs.Rounded.{raw}
 use Rattle.tree.specs.Signal.{gainOf}
-use Rattle.octave.specs.Step.{Differ}
+use Rattle.octave.specs.Helpers.{Differ}
 use Rattle.octave.proofs.Differing.{none-above}
 use Rattle.octave.proofs.Running.{region-moved, answered-of-raw, Going, going-starts, going-on, going-ends}
 use Rattle.octave.proofs.run.run.Statement.{statement}

@@ -1,0 +1,109 @@
+-- The memory: the prepared one, and what an accepted one is. Assumes nothing.
+use mathlib.Core.Path.{_≡_, refl, sym, ap, subst, _∙_}
+use mathlib.Core.Logic.{⊎-elim}
+use mathlib.Core.Bool.{Bool, true, false, cond, _&&_, false≢true}
+use mathlib.Core.List.{List, [], _∷_}
+use Prim.Native.Nat.{ℕ, suc, _+_, _-_, _*_, _^_, _<_}
+use native.Mathlib.Nat.{mul-sub}
+use native.Mathlib.Omega.{arith}
+use borrow.Author.Tests.{eqb-true, eq-eqb, ltb-true, lt-ltb}
+use lib.Dec.{T, eqb, ltb}
+use lib.ListN.{length, getD, set, replicate}
+use lib.IntN.{ℤ, pos, negsuc, natAbs}
+use lib.Signed.{ltZ, nonNeg}
+use types.Run.{OneOf}
+use denote.Enum.Declared.{tagOf}
+use Rattle.answers.specs.Answer.{numberIn}
+use Rattle.answers.specs.Checks.{allHold}
+use Rattle.answers.specs.Judging.{allRefuse}
+use Rattle.answers.proofs.Laws.{and-left, and-right, chosen-all, chosen-holds, chosen-fails}
+use Rattle.tree.specs.Prototype.{published}
+use Rattle.tree.specs.Tree.{delay}
+use Rattle.octave.specs.declared.memory.Kept.{Kept}
+use Rattle.octave.specs.declared.memory.Kept.the-variants.{Bands, CountWrong, LengthWrong, PositionOutside}
+use Rattle.octave.specs.Answer.{keptAnswer}
+use Rattle.octave.specs.Memory.{lineLength, memoryLength, countAllowed, prepared, bandsIn, positionIn, positionWithin, memoryChecks, accepts, keptOf}
+use Rattle.octave.proofs.Ranges.{Count, count-of}
+use Rattle.octave.proofs.memory.Kept as kept
+
+-- ---- the prepared memory
+
+-- zeros with the count in front are the prepared memory
+pub prepared-is : (M : ℕ) {n : ℕ} → n ≡ memoryLength M → set (replicate n (pos 0)) 0 (pos M) ≡ prepared M
+prepared-is M {n} e = rw (e ∙ two ((M - 1) * lineLength M)) refl
+  where
+    two : (k : ℕ) → 2 + k ≡ suc (suc k)
+    two k = omega arith
+
+pub delay-is : (M : ℕ) {n : ℕ} → n ≡ lineLength M → n - 9 ≡ delay published M
+delay-is M e = rw (e, mul-sub 9 (2 ^ (M - 1)) 1) refl
+
+-- ---- the position
+
+pub not-negative : (z : ℤ) → ltZ z (pos 0) ≡ false → T (nonNeg z)
+not-negative (pos n) e = tt
+not-negative (negsuc n) e = absurd (subst (λ (t : Bool). T t) e tt)
+
+position-parts : (size : ℕ) (at : ℤ) → positionWithin size at ≡ true → (ltZ at (pos 0) ≡ false) × (natAbs at < size)
+position-parts size at e = by (ltZ at (pos 0)) refl e
+  where
+    by : (t : Bool) → ltZ at (pos 0) ≡ t → cond t false (ltb (natAbs at) size) ≡ true → (ltZ at (pos 0) ≡ false) × (natAbs at < size)
+    by true d e = absurd (false≢true e)
+    by false d e = (d, ltb-true (natAbs at) size e)
+
+-- ---- an accepted memory
+
+pub record Accepted (m : List ℤ) (bands : ℕ) : Type 0 where
+  pub count : Count (getD m 0 (pos 0))
+  pub bands-are : bandsIn m ≡ bands
+  pub long : length m ≡ memoryLength bands
+  pub not-below : ltZ (positionIn m) (pos 0) ≡ false
+  pub inside : natAbs (positionIn m) < lineLength bands
+
+pub accepted-is : (m : List ℤ) (bands : ℕ) → accepts m ≡ true → bands ≡ bandsIn m → Accepted m bands
+unfolding allHold
+accepted-is m bands e b =
+    let C : Bool = countAllowed (getD m 0 (pos 0)) in
+    let L : Bool = eqb (length m) (memoryLength (bandsIn m)) in
+    let P : Bool = positionWithin (lineLength (bandsIn m)) (positionIn m) in
+    let rest : (L && (P && true)) ≡ true = and-right C (L && (P && true)) e in
+    let p = position-parts (lineLength (bandsIn m)) (positionIn m) (and-left P true (and-right L (P && true) rest)) in
+    rw b
+    (record {
+      count = count-of (getD m 0 (pos 0)) (and-left C (L && (P && true)) e);
+      bands-are = refl;
+      long = eqb-true (length m) (memoryLength (bandsIn m)) (and-left L (P && true) rest);
+      not-below = p .0;
+      inside = p .1;
+    })
+
+-- a memory whose parts are right is accepted
+pub accepts-is : (m : List ℤ) → countAllowed (getD m 0 (pos 0)) ≡ true → length m ≡ memoryLength (bandsIn m) → ltZ (positionIn m) (pos 0) ≡ false →
+    natAbs (positionIn m) < lineLength (bandsIn m) → accepts m ≡ true
+unfolding allHold
+accepts-is m c l n h =
+    rw (c, eq-eqb (length m) (memoryLength (bandsIn m)) l, n, lt-ltb (natAbs (positionIn m)) (lineLength (bandsIn m)) h)
+
+-- ---- how judging tells it
+
+all-refuse : (m : List ℤ) → allRefuse keptAnswer (memoryChecks m) ≡ true
+unfolding allRefuse
+all-refuse m = refl
+
+module _ (m : List ℤ) (k : Kept) (judged : k ≡ keptOf m) where
+  -- one of the three cases that are no bands
+  pub kept-wrong : OneOf (1 ∷ 2 ∷ 3 ∷ []) (tagOf kept.the-type k) → accepts m ≡ false
+  kept-wrong t = chosen-fails keptAnswer (memoryChecks m) (Bands (bandsIn m)) (λ z. by k t (ap (λ (q : Kept). numberIn (keptAnswer q)) judged ∙ z)) refl
+    where
+      by : (k : Kept) → OneOf (1 ∷ 2 ∷ 3 ∷ []) (tagOf kept.the-type k) → numberIn (keptAnswer k) ≡ 0 → ⊥
+      by (Bands n) t z = ⊎-elim (λ (e : _≡_ {A = ℕ} 0 1). omega arith) (⊎-elim (λ (e : _≡_ {A = ℕ} 0 2). omega arith) (λ (e : _≡_ {A = ℕ} 0 3). omega arith)) t
+      by CountWrong t z = omega arith
+      by LengthWrong t z = omega arith
+      by PositionOutside t z = omega arith
+
+  module _ (bands : ℕ) (is : k ≡ Bands bands) where
+    pub kept-right : accepts m ≡ true
+    kept-right = chosen-holds keptAnswer (memoryChecks m) (Bands (bandsIn m)) bands (all-refuse m) (ap keptAnswer (sym judged ∙ is))
+
+    pub kept-bands : bands ≡ bandsIn m
+    kept-bands = let e : Bands bands ≡ Bands (bandsIn m) = sym is ∙ judged ∙ chosen-all (Bands (bandsIn m)) (memoryChecks m) kept-right in cc
