@@ -154,6 +154,11 @@ module _ {R L A : Type 0} (answerOf : R → Answer A) (cs : List (Check R)) (bef
 pub one-answer : {R L : Type 0} {o : Outcome R L} {r q : R} {l m : L} → Done o r l → Done o q m → (r ≡ q) × (l ≡ m)
 one-answer d e = (d .result-is ∙ sym (e .result-is), d .lent-is ∙ sym (e .lent-is))
 
+-- a map with a way back takes no two cases to one answer
+pub one-case : {R A : Type 0} (answerOf : R → Answer A) (back : Answer A → R) → ((r : R) → back (answerOf r) ≡ r) → {a : Answer A} {r q : R} →
+    answerOf r ≡ a → answerOf q ≡ a → r ≡ q
+one-case answerOf back way {r = r} {q = q} d e = sym (way r) ∙ ap back (d ∙ sym e) ∙ way q
+
 -- ---- for search: P of each case
 
 module _ (R : Type 0) (P : R → Type 0) (result : R) where

@@ -7,7 +7,8 @@ use native.Mathlib.Nat.{le-of-suc-le-suc, not-suc-le-zero}
 use native.Mathlib.Numerals.{add-one}
 use native.Mathlib.Omega.{arith}
 use borrow.Author.Needs.{sfits-of}
-use borrow.Author.Tests.{not-true, not-false, leb-true}
+use borrow.Author.Tests.{not-true, not-false, leb-true, le-leb}
+use lib.Dec.{leb}
 use lib.ListN.{length, getD, drop, drop-of-length-le}
 use lib.Seq.{drop-cons}
 use lib.IntN.{ℤ, pos}
@@ -63,6 +64,14 @@ before-first lo hi (x ∷ xs) i h = by (within lo hi x) refl i h (λ k. before-f
 
 pub all-at : (lo hi : ℤ) (s : List ℤ) → allWithin lo hi s ≡ true → (i : ℕ) → i < length s → within lo hi (getD s i (pos 0)) ≡ true
 all-at lo hi s e i h = before-first lo hi s i (omega (arith, leb-true (length s) (firstOutside lo hi s) e))
+
+pub all-cons : (lo hi x : ℤ) (xs : List ℤ) → allWithin lo hi (x ∷ xs) ≡ true → (within lo hi x ≡ true) × (allWithin lo hi xs ≡ true)
+unfolding firstOutside
+all-cons lo hi x xs e = by (within lo hi x) (firstOutside lo hi xs) e
+  where
+    by : (t : Bool) (k : ℕ) → leb (suc (length xs)) (cond t (suc k) 0) ≡ true → (t ≡ true) × (leb (length xs) k ≡ true)
+    by true k h = (refl, le-leb (length xs) k (omega (arith, leb-true (suc (length xs)) (suc k) h)))
+    by false k h = absurd (omega (arith, leb-true (suc (length xs)) 0 h))
 
 -- ---- the loop that looks for the first, over the numbers as the machine hands them on
 

@@ -9,17 +9,19 @@ use lib.ListN.{length, getD, take, drop, length-take, length-drop}
 use lib.Seq.{getD-take, getD-drop}
 use lib.Dec.{eqb, leb}
 use borrow.Author.Tests.{eqb-true, leb-true, le-leb}
-use Rattle.wave.specs.Answer.{Answer, accepted, refused}
+use Rattle.answers.specs.Unit.{frontLength}
+use Rattle.answers.specs.Answer.{Answer, accepted, refused}
 use Rattle.wave.specs.Bytes.{field, same}
 use Rattle.wave.specs.Names.{riff, wave, fmt, data′}
 use Rattle.wave.specs.Values.{right, blockSize}
 use Rattle.wave.specs.Walk.{Found, Seen, nothing, sound, Step, ends, on, next, first, values, fmtChunk, dataChunk, chunk, follow, walk, judge, readOf}
-use Rattle.wave.proofs.Cases.{by-test, cond-case, and-left, and-right}
+use Rattle.answers.proofs.Laws.{and-left, and-right}
+use Rattle.wave.proofs.ByTest.{by-test, cond-case}
 use Rattle.wave.proofs.Little.{field-2, field-4, same-4}
 use Rattle.wave.proofs.Chunks.{chunk-fmt, chunk-data}
 use Rattle.wave.proofs.Walks.{walk-on, walk-ends, went-on}
 
--- ── rows that agree up to a place ──────────────────────────────────────────────────────────────
+-- ---- rows that agree up to a place
 
 -- both have m bytes at least, and the first m are the same
 pub record Alike (m : ℕ) (r q : List ℕ) : Type 0 where
@@ -66,7 +68,7 @@ module _ (m : ℕ) (r q : List ℕ) (a : Alike m r q) where
       ∙ rw (a .bytes 0 (omega arith), a .bytes 1 (omega arith), a .bytes 2 (omega arith), a .bytes 3 (omega arith))
       (sym (same-4 q name (omega arith) four))
 
-  -- ── chunks that agree ──────────────────────────────────────────────────────────────────────
+  -- ---- chunks that agree
 
   fmt-alike : (at : ℕ) (seen : Seen) → 24 ≤ m → fmtChunk r at seen ≡ fmtChunk q at seen
   unfolding fmtChunk values
@@ -102,14 +104,13 @@ module _ (m : ℕ) (r q : List ℕ) (a : Alike m r q) where
         field-4-alike 4 (omega arith),
       ))
 
--- ── the walk to a `data` header ────────────────────────────────────────────────────────────────
+-- ---- the walk to a `data` header
 
 -- the walk from a chunk comes to the chunk at a place, with the `fmt ` that it has met by then
 pub data Comes (front : List ℕ) : ℕ → Seen → ℕ → Seen → Type 0 where
   here : {at : ℕ} {seen : Seen} → Comes front at seen at seen
-  there :
-      {at place d : ℕ} {seen met last : Seen} → chunk (drop at front) at seen ≡ on place met
-      → Comes front place met d last → Comes front at seen d last
+  there : {at place d : ℕ} {seen met last : Seen} → chunk (drop at front) at seen ≡ on place met →
+      Comes front place met d last → Comes front at seen d last
 
 -- a `data` header stands wholly at a place
 pub record AtData (front : List ℕ) (d : ℕ) : Type 0 where
@@ -139,9 +140,8 @@ fmt-steps rest at seen =
     cond-case (Fmt at) _ _ (eqb (field rest 4 4) 16)
     (λ _. cond-case (Fmt at) _ _ (leb 24 (length rest)) (λ _. first-fmt rest at seen) (λ _. stops)) (λ _. stops)
 
-fmt-place :
-    (rest : List ℕ) (at place : ℕ) (seen met : Seen) → 8 ≤ length rest → same (take 4 rest) fmt ≡ true
-    → chunk rest at seen ≡ on place met → place ≡ at + 24
+fmt-place : (rest : List ℕ) (at place : ℕ) (seen met : Seen) → 8 ≤ length rest → same (take 4 rest) fmt ≡ true →
+    chunk rest at seen ≡ on place met → place ≡ at + 24
 fmt-place rest at place seen met l t e =
     of-goes (subst (Fmt at) (chunk-fmt rest at seen (fmtChunk rest at seen) l t refl ∙ e) (fmt-steps rest at seen))
   where
@@ -200,46 +200,44 @@ module _ (a b : List ℕ) (d : ℕ) (alike : Alike (d + 8) a b) (data-there : At
       )
 
 -- once the walk comes to a `data` header, two files that agree up to the header's end get the same answer
-pub data-decides :
-    (s t : List ℕ) (d : ℕ) (last : Seen) → Comes (take 4096 s) 12 nothing d last → AtData (take 4096 s) d
-    → take (d + 8) s ≡ take (d + 8) t → readOf s ≡ readOf t
+pub data-decides : (s t : List ℕ) (d : ℕ) (last : Seen) → Comes (take frontLength s) 12 nothing d last → AtData (take frontLength s) d →
+    take (d + 8) s ≡ take (d + 8) t → readOf s ≡ readOf t
 unfolding readOf
-data-decides s t d last c here′ e = judge-alike (take 4096 s) (take 4096 t) d alike here′ last c
+data-decides s t d last c here′ e = judge-alike (take frontLength s) (take frontLength t) d alike here′ last c
   where
-    in-front : d + 8 ≤ 4096
-    in-front = let w = here′ .whole in let l = length-take 4096 s in omega arith
+    in-front : d + 8 ≤ frontLength
+    in-front = let w = here′ .whole in let l = length-take frontLength s in omega arith
 
     long-t : d + 8 ≤ length t
     long-t =
         let w = here′ .whole in
-        let ls = length-take 4096 s in
+        let ls = length-take frontLength s in
         let ks = length-take (d + 8) s in
         let kt = length-take (d + 8) t in
         let p = ap length e in
         omega arith
 
-    alike : Alike (d + 8) (take 4096 s) (take 4096 t)
+    alike : Alike (d + 8) (take frontLength s) (take frontLength t)
     alike =
         record {
           bytes = λ i h.
-              getD-take 4096 s i 0 (omega (arith, in-front)) ∙ sym (getD-take (d + 8) s i 0 h) ∙ ap (λ (l : List ℕ). getD l i 0) e
-              ∙ getD-take (d + 8) t i 0 h ∙ sym (getD-take 4096 t i 0 (omega (arith, in-front)));
+              getD-take frontLength s i 0 (omega (arith, in-front)) ∙ sym (getD-take (d + 8) s i 0 h) ∙ ap (λ (l : List ℕ). getD l i 0) e
+              ∙ getD-take (d + 8) t i 0 h ∙ sym (getD-take frontLength t i 0 (omega (arith, in-front)));
           long = here′ .whole;
-          long′ = let l = length-take 4096 t in omega (arith, in-front, long-t);
+          long′ = let l = length-take frontLength t in omega (arith, in-front, long-t);
         }
 
--- ── an accepted file ───────────────────────────────────────────────────────────────────────────
+-- ---- an accepted file
 
-never : (n : ℕ) (f : Found) → refused n ≡ accepted f → ⊥
-never n f p = let z : _≡_ {A = ℕ} 0 1 = cc in omega arith
+never : {n place : ℕ} {f : Found} → refused n place ≡ accepted f → ⊥
+never p = let z : _≡_ {A = ℕ} 0 1 = cc in omega arith
 
 -- a chunk goes on, refuses, or is a whole `data` header
 data Lands (rest : List ℕ) (at : ℕ) (seen : Seen) : Step → Type 0 where
   onward : {place : ℕ} {met : Seen} → Lands rest at seen (on place met)
-  refuses : {n : ℕ} → Lands rest at seen (ends (refused n))
-  lands :
-      {answer : Answer Found} → 8 ≤ length rest → same (take 4 rest) data′ ≡ true → answer ≡ dataChunk (field rest 4 4) at seen
-      → Lands rest at seen (ends answer)
+  refuses : {n p : ℕ} → Lands rest at seen (ends (refused n p))
+  lands : {answer : Answer Found} → 8 ≤ length rest → same (take 4 rest) data′ ≡ true → answer ≡ dataChunk (field rest 4 4) at seen →
+      Lands rest at seen (ends answer)
 
 first-lands : (rest : List ℕ) (at : ℕ) (seen met : Seen) → Lands rest at seen (first met (values rest at))
 unfolding first values
@@ -261,25 +259,24 @@ chunk-lands rest at seen =
 
 abbrev start-of : Answer Found → ℕ
 start-of (accepted f) = f .start
-start-of (refused n) = 0
+start-of (refused n p) = 0
 
 data-start : (size at : ℕ) (seen : Seen) (f : Found) → dataChunk size at seen ≡ accepted f → f .start ≡ at + 8
 unfolding dataChunk
-data-start size at nothing f e = absurd (never 22 f e)
+data-start size at nothing f e = absurd (never e)
 data-start size at (sound rate bits) f e =
     by-test (eqb (size % blockSize bits) 0)
     (λ t. sym (ap start-of (rw t at e)))
-    (λ t. absurd (never 25 f (rw t at e)))
+    (λ t. absurd (never (rw t at e)))
 
 abbrev answer-of : Step → Answer Found
 answer-of (ends answer) = answer
-answer-of (on place met) = refused 0
+answer-of (on place met) = refused 0 0
 
-landed :
-    (rest : List ℕ) (at : ℕ) (seen : Seen) (f : Found) (step : Step) → Lands rest at seen step → step ≡ ends (accepted f)
-    → (8 ≤ length rest) × (same (take 4 rest) data′ ≡ true) × (f .start ≡ at + 8)
+landed : (rest : List ℕ) (at : ℕ) (seen : Seen) (f : Found) (step : Step) → Lands rest at seen step → step ≡ ends (accepted f) →
+    (8 ≤ length rest) × (same (take 4 rest) data′ ≡ true) × (f .start ≡ at + 8)
 landed rest at seen f step onward e = absurd (let z : _≡_ {A = ℕ} 0 1 = cc in omega arith)
-landed rest at seen f step (refuses {n = n}) e = absurd (never n f (ap answer-of e))
+landed rest at seen f step refuses e = absurd (never (ap answer-of e))
 landed rest at seen f step (lands {answer = answer} l n a) e = (l, n, data-start (field rest 4 4) at seen f (sym a ∙ ap answer-of e))
 
 -- where an accepted walk ends: at a `data` header, eight bytes before the start
@@ -290,10 +287,9 @@ record Landing (front : List ℕ) (at : ℕ) (seen : Seen) (f : Found) : Type 0 
   data-at : AtData front place
   start : f .start ≡ place + 8
 
-landing-of :
-    (front : List ℕ) (at : ℕ) (seen : Seen) (f : Found) (onward-from : ℕ → Seen → Answer Found)
-    → ((place : ℕ) (met : Seen) → onward-from place met ≡ accepted f → Landing front place met f)
-    → (step : Step) → chunk (drop at front) at seen ≡ step → follow onward-from step ≡ accepted f → Landing front at seen f
+landing-of : (front : List ℕ) (at : ℕ) (seen : Seen) (f : Found) (onward-from : ℕ → Seen → Answer Found) →
+    ((place : ℕ) (met : Seen) → onward-from place met ≡ accepted f → Landing front place met f) →
+    (step : Step) → chunk (drop at front) at seen ≡ step → follow onward-from step ≡ accepted f → Landing front at seen f
 landing-of front at seen f k later (ends answer) p e =
     let here′ = landed (drop at front) at seen f (chunk (drop at front) at seen) (chunk-lands (drop at front) at seen) (p ∙ ap ends e) in
     let l = length-drop at front in
@@ -317,7 +313,7 @@ landing-of front at seen f k later (on place met) p e =
 
 landing : (n : ℕ) (front : List ℕ) (at : ℕ) (seen : Seen) (f : Found) → walk n front at seen ≡ accepted f → Landing front at seen f
 unfolding walk
-landing zero front at seen f e = absurd (never 24 f e)
+landing zero front at seen f e = absurd (never e)
 landing (suc n) front at seen f e =
     landing-of front at seen f (walk n front) (λ place met p. landing n front place met f p) (chunk (drop at front) at seen) refl e
 
@@ -325,20 +321,20 @@ walk-of : (front : List ℕ) (f : Found) → judge front ≡ accepted f → walk
 unfolding judge
 walk-of front f e =
     by-test (leb 12 (length front) && (same (take 4 front) riff && same (take 4 (drop 8 front)) wave))
-    (λ t. rw t at e) (λ t. absurd (never 21 f (rw t at e)))
+    (λ t. rw t at e) (λ t. absurd (never (rw t at e)))
 
 -- the bytes before the start decide an accepted file
 pub accepted-decides : (s t : List ℕ) (f : Found) → readOf s ≡ accepted f → take (f .start) s ≡ take (f .start) t → readOf t ≡ accepted f
 unfolding readOf
 accepted-decides s t f e same-bytes =
-    let l = landing (length (take 4096 s)) (take 4096 s) 12 nothing f (walk-of (take 4096 s) f e) in
+    let l = landing (length (take frontLength s)) (take frontLength s) 12 nothing f (walk-of (take frontLength s) f e) in
     sym (data-decides s t (l .place) (l .last) (l .comes) (l .data-at)
     (ap (λ (k : ℕ). take k s) (sym (l .start)) ∙ same-bytes ∙ ap (λ (k : ℕ). take k t) (l .start)))
     ∙ e
 
 -- the samples of an accepted file start in the front, or right behind it
-pub accepted-start : (s : List ℕ) (f : Found) → readOf s ≡ accepted f → f .start ≤ 4096
+pub accepted-start : (s : List ℕ) (f : Found) → readOf s ≡ accepted f → f .start ≤ frontLength
 unfolding readOf
 accepted-start s f e =
-    let l = landing (length (take 4096 s)) (take 4096 s) 12 nothing f (walk-of (take 4096 s) f e) in
-    omega (arith, l .data-at .whole, l .start, length-take 4096 s)
+    let l = landing (length (take frontLength s)) (take frontLength s) 12 nothing f (walk-of (take frontLength s) f e) in
+    omega (arith, l .data-at .whole, l .start, length-take frontLength s)

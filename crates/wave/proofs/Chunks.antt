@@ -9,12 +9,13 @@ use native.Mathlib.Nat.{mul-le-mul}
 use lib.ListN.{length, take}
 use lib.Dec.{eqb}
 use borrow.Author.Tests.{eq-eqb, ne-eqb, le-leb, lt-leb, eqb-true, eqb-false}
-use Rattle.wave.specs.Answer.{Answer, accepted, refused}
+use Rattle.answers.specs.Answer.{Answer, accepted, refused}
 use Rattle.wave.specs.Bytes.{field, same}
 use Rattle.wave.specs.Names.{fmt, data′}
 use Rattle.wave.specs.Values.{blockSize, knownRate, knownBits, right}
 use Rattle.wave.specs.Walk.{Found, Seen, nothing, sound, Step, ends, on, next, first, values, fmtChunk, dataChunk, chunk}
-use Rattle.wave.proofs.Cases.{by-test, and-left, and-right}
+use Rattle.answers.proofs.Laws.{and-left, and-right}
+use Rattle.wave.proofs.ByTest.{by-test}
 use Rattle.wave.proofs.Writing.{rate-small}
 
 -- neither number of bits is above 24
@@ -25,7 +26,7 @@ bits-known n h other = eqb-true n 24 (subst (λ (b : Bool). (b || eqb n 24) ≡ 
 bits-small : (n : ℕ) → knownBits n ≡ true → n ≤ 24
 bits-small n h = by-test (eqb n 16) (λ t. omega (arith, eqb-true n 16 t)) (λ t. omega (arith, bits-known n h (eqb-false n 16 t)))
 
--- ── the right values ───────────────────────────────────────────────────────────────────────────
+-- ---- the right values
 
 module _ (tag channels rate byteRate block bits : ℕ) where
   pub right-tag : (tag ≡ 1 → ⊥) → false ≡ right tag channels rate byteRate block bits
@@ -62,9 +63,8 @@ module _ (tag channels rate byteRate block bits : ℕ) where
         omega arith
 
 -- right values that are not of 16 bits are of 24
-pub right-means-24 :
-    (tag channels rate byteRate block bits : ℕ) (judged : Bool) → judged ≡ right tag channels rate byteRate block bits
-    → judged ≡ true → (bits ≡ 16 → ⊥) → bits ≡ 24
+pub right-means-24 : (tag channels rate byteRate block bits : ℕ) (judged : Bool) → judged ≡ right tag channels rate byteRate block bits →
+    judged ≡ true → (bits ≡ 16 → ⊥) → bits ≡ 24
 unfolding right
 right-means-24 tag channels rate byteRate block bits judged is held other =
     bits-known bits
@@ -72,18 +72,18 @@ right-means-24 tag channels rate byteRate block bits judged is held other =
     (and-right (knownRate rate) _ (and-right (eqb channels 1) _ (and-right (eqb tag 1) _ (sym is ∙ held)))))
     other
 
--- ── `fmt ` ─────────────────────────────────────────────────────────────────────────────────────
+-- ---- `fmt `
 
 module _ (rest : List ℕ) (at : ℕ) where
-  pub fmt-length : (seen : Seen) → (field rest 4 4 ≡ 16 → ⊥) → ends (refused 23) ≡ fmtChunk rest at seen
+  pub fmt-length : (seen : Seen) → (field rest 4 4 ≡ 16 → ⊥) → ends (refused 23 0) ≡ fmtChunk rest at seen
   unfolding fmtChunk
   fmt-length seen h = rw (ne-eqb (field rest 4 4) 16 h)
 
-  pub fmt-cut : (seen : Seen) → field rest 4 4 ≡ 16 → length rest < 24 → ends (refused 24) ≡ fmtChunk rest at seen
+  pub fmt-cut : (seen : Seen) → field rest 4 4 ≡ 16 → length rest < 24 → ends (refused 24 0) ≡ fmtChunk rest at seen
   unfolding fmtChunk
   fmt-cut seen e l = rw (eq-eqb (field rest 4 4) 16 e, lt-leb 24 (length rest) l)
 
-  pub fmt-second : (rate bits : ℕ) → field rest 4 4 ≡ 16 → 24 ≤ length rest → ends (refused 23) ≡ fmtChunk rest at (sound rate bits)
+  pub fmt-second : (rate bits : ℕ) → field rest 4 4 ≡ 16 → 24 ≤ length rest → ends (refused 23 0) ≡ fmtChunk rest at (sound rate bits)
   unfolding fmtChunk first
   fmt-second rate bits e l = rw (eq-eqb (field rest 4 4) 16 e, le-leb 24 (length rest) l)
 
@@ -103,12 +103,11 @@ pub record Fields (rest : List ℕ) (tag channels rate byteRate block bits : ℕ
 module _
     (rest : List ℕ) (at tag channels rate byteRate block bits : ℕ) (f : Fields rest tag channels rate byteRate block bits)
     (judged : Bool) (is : judged ≡ right tag channels rate byteRate block bits) where
-  of-fields :
-      judged
+  of-fields : judged
       ≡ right (field rest 8 2) (field rest 10 2) (field rest 12 4) (field rest 16 4) (field rest 20 2) (field rest 22 2)
   of-fields = is ∙ rw (← f .tag-is, ← f .channels-is, ← f .rate-is, ← f .byteRate-is, ← f .block-is, ← f .bits-is)
 
-  pub values-wrong : judged ≡ false → ends (refused 23) ≡ values rest at
+  pub values-wrong : judged ≡ false → ends (refused 23 0) ≡ values rest at
   unfolding values
   values-wrong h = rw (sym of-fields ∙ h)
 
@@ -118,14 +117,14 @@ module _
       rw (sym of-fields ∙ h)
       (ap (λ (p : ℕ). on p (sound rate known)) n ∙ ap (λ (b : ℕ). on (next at 16) (sound rate b)) (k ∙ f .bits-is) ∙ ap (λ (r : ℕ). on (next at 16) (sound r (field rest 22 2))) (f .rate-is))
 
--- ── `data` ─────────────────────────────────────────────────────────────────────────────────────
+-- ---- `data`
 
-pub data-none : (size at : ℕ) → refused 22 ≡ dataChunk size at nothing
+pub data-none : (size at : ℕ) → refused 22 0 ≡ dataChunk size at nothing
 unfolding dataChunk
 data-none size at = refl
 
 module _ (size at rate bits block : ℕ) (e : block ≡ blockSize bits) where
-  pub data-part : (size % block ≡ 0 → ⊥) → refused 25 ≡ dataChunk size at (sound rate bits)
+  pub data-part : (size % block ≡ 0 → ⊥) → refused 25 0 ≡ dataChunk size at (sound rate bits)
   unfolding dataChunk
   data-part h = rw (ne-eqb (size % (bits / 8)) 0 (subst (λ (b : ℕ). size % b ≡ 0 → ⊥) e h))
 
@@ -133,10 +132,10 @@ module _ (size at rate bits block : ℕ) (e : block ≡ blockSize bits) where
   unfolding dataChunk
   data-whole h = rw (eq-eqb (size % (bits / 8)) 0 (subst (λ (b : ℕ). size % b ≡ 0) e h))
 
--- ── any chunk ──────────────────────────────────────────────────────────────────────────────────
+-- ---- any chunk
 
 module _ (rest : List ℕ) (at : ℕ) (seen : Seen) where
-  pub chunk-cut : length rest < 8 → ends (refused 24) ≡ chunk rest at seen
+  pub chunk-cut : length rest < 8 → ends (refused 24 0) ≡ chunk rest at seen
   unfolding chunk
   chunk-cut l = rw (lt-leb 8 (length rest) l)
 
@@ -145,13 +144,11 @@ module _ (rest : List ℕ) (at : ℕ) (seen : Seen) where
   chunk-fmt step l f e = rw (le-leb 8 (length rest) l, f) e
 
   module _ (l : 8 ≤ length rest) (f : same (take 4 rest) fmt ≡ false) where
-    pub chunk-data :
-        (answer : Answer Found) (size : ℕ) → same (take 4 rest) data′ ≡ true → size ≡ field rest 4 4 → answer ≡ dataChunk size at seen
-        → ends answer ≡ chunk rest at seen
+    pub chunk-data : (answer : Answer Found) (size : ℕ) → same (take 4 rest) data′ ≡ true → size ≡ field rest 4 4 → answer ≡ dataChunk size at seen →
+        ends answer ≡ chunk rest at seen
     unfolding chunk
     chunk-data answer size d s e = rw (le-leb 8 (length rest) l, f, d) (ap ends (e ∙ ap (λ (n : ℕ). dataChunk n at seen) s))
 
-    pub chunk-other :
-        (place size : ℕ) → same (take 4 rest) data′ ≡ false → size ≡ field rest 4 4 → place ≡ next at size → on place seen ≡ chunk rest at seen
+    pub chunk-other : (place size : ℕ) → same (take 4 rest) data′ ≡ false → size ≡ field rest 4 4 → place ≡ next at size → on place seen ≡ chunk rest at seen
     unfolding chunk
     chunk-other place size d s e = rw (le-leb 8 (length rest) l, f, d) (ap (λ (p : ℕ). on p seen) (e ∙ ap (next at) s))

@@ -1,21 +1,32 @@
--- The single calls of the sample codec, case by case: what each way through the code gives is what the definition says.
--- Assumes nothing.
+-- The sample codec: the sample in bytes at a place, and the calls where they accept. Assumes nothing.
 use mathlib.Core.Path.{_≡_, sym, ap, _∙_}
-use mathlib.Core.Bool.{true, false}
+use mathlib.Core.Bool.{true}
 use mathlib.Core.List.{List}
 use Prim.Native.Nat.{ℕ, suc, _+_, _-_, _*_, _<_, _≤_}
 use native.Mathlib.Omega.{arith}
-use lib.ListN.{length, getD}
+use lib.ListN.{length, getD, take, drop}
+use lib.Seq.{sets, take-all}
 use lib.IntN.{ℤ, pos, negℤ, _*ℤ_}
 use borrow.Author.Tests.{lt-ltb, le-ltb, eq-eqb, ne-eqb}
-use Rattle.wave.specs.Answer.{accepted, refused}
-use Rattle.wave.specs.Bytes.{number, little}
-use Rattle.wave.specs.Sample.{inRange, numberOf, codeOf, sampleIn, fromBytes, toBytes}
+use mir.Syntax.{w32}
+use mir.Val.{SFits, toZ, ofZ}
+use mir.Facts.{toZ-ofZ}
+use Rattle.answers.specs.Checks.{decide}
+use Rattle.answers.specs.Range.{within, allWithin}
+use Rattle.answers.specs.Unit.{leastSample, mostSample}
+use Rattle.wave.specs.Bytes.{number, little, field}
+use Rattle.wave.specs.Sample.{numberOf, codeOf, sampleIn, fromBytes, toBytes}
+use Rattle.wave.specs.Samples.{bytesOf, blockTo}
+use Rattle.wave.specs.Values.{sizeOf}
+use Rattle.wave.specs.declared.format.Format.{Format}
 use Rattle.wave.specs.declared.format.Format.the-variants.{Bits16, Bits24}
-use Rattle.wave.proofs.Cases.{by-order}
-use Rattle.wave.proofs.Little.{number-2, number-3}
+use Rattle.wave.specs.declared.sample.Sample.the-variants as sample
+use Rattle.wave.specs.declared.sample.Put.the-variants as put
+use Rattle.wave.specs.declared.samples.Stored.the-variants as stored
+use Rattle.wave.proofs.ByTest.{by-order}
+use Rattle.wave.proofs.Little.{field-2, field-3, length-little, sets-whole}
 
--- ── sixteen bits ───────────────────────────────────────────────────────────────────────────────
+-- ---- sixteen bits
 
 low-16 : (c : ℕ) → c < 32768 → numberOf 16 c *ℤ pos 256 ≡ numberOf 24 (256 * c)
 unfolding numberOf
@@ -34,45 +45,48 @@ high-16 c l h =
 pub times-256 : (c : ℕ) → c < 65536 → numberOf 16 c *ℤ pos 256 ≡ numberOf 24 (256 * c)
 times-256 c h = by-order c 32768 (λ l. low-16 c l) (λ l. high-16 c l h)
 
--- ── from bytes ─────────────────────────────────────────────────────────────────────────────────
+-- ---- a sample at a place
 
-module _ (s : List ℕ) (code : ℕ) where
-  pub sample-16 :
-      length s ≡ 2 → getD s 0 0 < 256 → getD s 1 0 < 256 → code ≡ 0 + 256 * getD s 0 0 + 65536 * getD s 1 0
-      → numberOf 24 code ≡ sampleIn Bits16 s
-  unfolding sampleIn
-  sample-16 two low high e =
-      let n : number s ≡ getD s 0 0 + 256 * getD s 1 0 = number-2 s two in
-      let m : code ≡ 256 * number s = omega arith in
-      ap (numberOf 24) m ∙ sym (times-256 (number s) (omega arith))
+-- the sample that two bytes at a place hold
+pub taken-16 : (s : List ℕ) (at code : ℕ) → getD s at 0 < 256 → getD s (at + 1) 0 < 256 →
+    code ≡ 0 + 256 * getD s at 0 + 65536 * getD s (at + 1) 0 →
+    numberOf 24 code ≡ sampleIn Bits16 (take 2 (drop at s))
+unfolding sampleIn field
+taken-16 s at code low high e =
+    let n = field-2 s at in
+    let m : code ≡ 256 * number (take 2 (drop at s)) = omega arith in
+    ap (numberOf 24) m ∙ sym (times-256 (number (take 2 (drop at s))) (omega arith))
 
-  pub sample-24 : length s ≡ 3 → code ≡ getD s 0 0 + 256 * getD s 1 0 + 65536 * getD s 2 0 → numberOf 24 code ≡ sampleIn Bits24 s
-  unfolding sampleIn
-  sample-24 three e = ap (numberOf 24) (e ∙ sym (number-3 s three))
+-- the sample that three bytes at a place hold
+pub taken-24 : (s : List ℕ) (at code : ℕ) → code ≡ getD s at 0 + 256 * getD s (at + 1) 0 + 65536 * getD s (at + 2) 0 →
+    numberOf 24 code ≡ sampleIn Bits24 (take 3 (drop at s))
+unfolding sampleIn field
+taken-24 s at code e = ap (numberOf 24) (e ∙ sym (field-3 s at))
 
-pub from-two : (s : List ℕ) (z : ℤ) → length s ≡ 2 → z ≡ sampleIn Bits16 s → accepted z ≡ fromBytes s
+-- ---- the calls where they accept
+
+pub from-whole : (format : Format) (s : List ℕ) → length s ≡ sizeOf format → fromBytes s ≡ sample.Is (sampleIn format s)
 unfolding fromBytes
-from-two s z two e = rw (eq-eqb (length s) 2 two) (ap accepted e)
+from-whole Bits16 s h = rw (eq-eqb (length s) 2 h)
+from-whole Bits24 s h = rw (ne-eqb (length s) 2 (λ two. omega arith), eq-eqb (length s) 3 h)
 
-pub from-three : (s : List ℕ) (z : ℤ) → length s ≡ 3 → z ≡ sampleIn Bits24 s → accepted z ≡ fromBytes s
-unfolding fromBytes
-from-three s z three e =
-    rw (ne-eqb (length s) 2 (λ two. omega arith), eq-eqb (length s) 3 three) (ap accepted e)
+pub from-at : (format : Format) (s : List ℕ) (z : ℤ) → length s ≡ sizeOf format → z ≡ sampleIn format (take (sizeOf format) s) → sample.Is z ≡ fromBytes s
+from-at format s z h e =
+    ap sample.Is (e ∙ ap (sampleIn format) (take-all (sizeOf format) s (omega arith))) ∙ sym (from-whole format s h)
 
-pub from-other : (s : List ℕ) → (length s ≡ 2 → ⊥) → (length s ≡ 3 → ⊥) → refused 18 ≡ fromBytes s
-unfolding fromBytes
-from-other s two three = rw (ne-eqb (length s) 2 two, ne-eqb (length s) 3 three)
+pub to-three : (z : ℤ) (s : List ℕ) → length s ≡ 3 → within leastSample mostSample z ≡ true →
+    toBytes z s ≡ record { result = put.Done 3; lent = little 3 (codeOf z) }
+unfolding toBytes decide
+to-three z s h range = rw (eq-eqb (length s) 3 h, range)
 
--- ── to bytes ───────────────────────────────────────────────────────────────────────────────────
+pub to-all : (samples : List ℤ) (s : List ℕ) → length s ≡ 3 * length samples → allWithin leastSample mostSample samples ≡ true →
+    blockTo samples s ≡ record { result = stored.Bytes (length s); lent = bytesOf samples }
+unfolding blockTo decide
+to-all samples s fits range = rw (eq-eqb (length s) (3 * length samples) fits, range)
 
-pub to-other : (z : ℤ) (s : List ℕ) → (length s ≡ 3 → ⊥) → (refused 18, s) ≡ toBytes z s
-unfolding toBytes
-to-other z s h = rw (ne-eqb (length s) 3 h)
-
-pub to-out : (z : ℤ) (s : List ℕ) → length s ≡ 3 → inRange z ≡ false → (refused 19, s) ≡ toBytes z s
-unfolding toBytes
-to-out z s h out = rw (eq-eqb (length s) 3 h, out)
-
-pub to-three : (z : ℤ) (s t : List ℕ) → length s ≡ 3 → inRange z ≡ true → t ≡ little 3 (codeOf z) → (accepted 3, t) ≡ toBytes z s
-unfolding toBytes
-to-three z s t h in-it e = rw (eq-eqb (length s) 3 h, in-it, e)
+-- a code's three bytes, stored in a buffer of three
+pub row-of : (z : ℤ) (s t : List ℕ) (code : ℕ) → SFits w32 z → length s ≡ 3 → code ≡ codeOf (toZ w32 (ofZ w32 z)) → t ≡ sets s 0 (little 3 code) →
+    t ≡ little 3 (codeOf z)
+row-of z s t code fits three e d =
+    d ∙ ap (λ (k : ℕ). sets s 0 (little 3 k)) (e ∙ ap codeOf (toZ-ofZ fits))
+    ∙ sets-whole s (little 3 (codeOf z)) (length-little 3 (codeOf z) ∙ sym three)

@@ -1,58 +1,42 @@
 -- Two's complement of 24 bits: a number in the range and its code say the same, and the machine's steps between them lose nothing.
 -- Assumes nothing.
 use mathlib.Core.Path.{_≡_, refl, sym, ap, _∙_, subst}
-use mathlib.Core.Bool.{Bool, true, false, not, _&&_, and-true, true≢false}
+use mathlib.Core.Bool.{true, false, true≢false}
 use Prim.Native.Nat.{ℕ, suc, _-_, _<_, _≤_}
 use native.Mathlib.Omega.{arith}
 use lib.IntN.{ℤ, pos, negsuc, natAbs, _+ℤ_, _-ℤ_}
-use lib.Signed.{leZ, ltZ, nonNeg}
+use lib.Signed.{ltZ, nonNeg}
 use lib.Dec.{T}
-use borrow.Author.Tests.{leb-true, le-leb, lt-leb, ltb-true, lt-ltb, le-ltb}
+use borrow.Author.Tests.{leb-true, le-leb, ltb-true, ltb-false, lt-ltb, le-ltb}
 use mir.Syntax.{w32}
 use mir.Val.{Fits, SFits, toZ, ofZ}
 use mir.Facts.{toZ-ofZ, toZ-pos}
-use Rattle.wave.proofs.Cases.{by-order}
-use Rattle.wave.specs.Sample.{inRange, numberOf, codeOf}
+use Rattle.wave.proofs.ByTest.{by-order}
+use Rattle.answers.specs.Range.{within}
+use Rattle.answers.specs.Unit.{leastSample, mostSample}
+use Rattle.answers.proofs.Ranges.{within-ends}
+use Rattle.wave.specs.Sample.{numberOf, codeOf}
 
--- ── the range ──────────────────────────────────────────────────────────────────────────────────
+-- ---- the range
 
-pub in-range-neg : (n : ℕ) → inRange (negsuc n) ≡ true → n < 8388608
-unfolding inRange
-in-range-neg n h = let l : n ≤ 8388607 = leb-true n 8388607 (rw and-true at h) in omega arith
+pub in-range-neg : (n : ℕ) → within leastSample mostSample (negsuc n) ≡ true → n < 8388608
+in-range-neg n h = omega (arith, ltb-false 8388607 n (within-ends leastSample mostSample (negsuc n) h .0))
 
-pub in-range-pos : (n : ℕ) → inRange (pos n) ≡ true → n < 8388608
-unfolding inRange
-in-range-pos n h = let l : n ≤ 8388607 = leb-true n 8388607 h in omega arith
+pub in-range-pos : (n : ℕ) → within leastSample mostSample (pos n) ≡ true → n < 8388608
+in-range-pos n h = omega (arith, leb-true n 8388607 (within-ends leastSample mostSample (pos n) h .1))
 
-pub code-below : (z : ℤ) → inRange z ≡ true → codeOf z < 16777216
+pub code-below : (z : ℤ) → within leastSample mostSample z ≡ true → codeOf z < 16777216
 unfolding codeOf
 code-below (pos n) h = omega (arith, in-range-pos n h)
 code-below (negsuc n) h = omega (arith, in-range-neg n h)
 
-in-range-of-pos : (n : ℕ) → n < 8388608 → inRange (pos n) ≡ true
-unfolding inRange
+in-range-of-pos : (n : ℕ) → n < 8388608 → within leastSample mostSample (pos n) ≡ true
 in-range-of-pos n h = le-leb n 8388607 (omega arith)
 
-in-range-of-neg : (n : ℕ) → n < 8388608 → inRange (negsuc n) ≡ true
-unfolding inRange
-in-range-of-neg n h = rw and-true (le-leb n 8388607 (omega arith))
+in-range-of-neg : (n : ℕ) → n < 8388608 → within leastSample mostSample (negsuc n) ≡ true
+in-range-of-neg n h = rw (le-ltb 8388607 n (omega arith))
 
-flip : (z : ℤ) → leZ (negsuc 8388607) z ≡ not (ltZ z (negsuc 8388607))
-flip (pos n) = refl
-flip (negsuc n) = by-order 8388607 n (λ l. lt-leb n 8388607 l ∙ sym (ap not (lt-ltb 8388607 n l))) (λ l. le-leb n 8388607 l ∙ sym (ap not (le-ltb 8388607 n l)))
-
-module _ (z : ℤ) (fits : SFits w32 z) where
-  pub too-low : ltZ (toZ w32 (ofZ w32 z)) (negsuc 8388607) ≡ true → false ≡ inRange z
-  unfolding inRange
-  too-low l = sym (ap (λ (t : Bool). t && leZ z (pos 8388607)) (flip z ∙ ap not (rw (toZ-ofZ fits) at l)))
-
-  pub not-too-low : ltZ (toZ w32 (ofZ w32 z)) (negsuc 8388607) ≡ false → leZ (toZ w32 (ofZ w32 z)) (pos 8388607) ≡ inRange z
-  unfolding inRange
-  not-too-low l =
-      ap (λ (v : ℤ). leZ v (pos 8388607)) (toZ-ofZ fits)
-      ∙ sym (ap (λ (t : Bool). t && leZ z (pos 8388607)) (flip z ∙ ap not (rw (toZ-ofZ fits) at l)))
-
--- ── a number to its code ───────────────────────────────────────────────────────────────────────
+-- ---- a number to its code
 
 add-whole : (n : ℕ) → n < 8388608 → negsuc n +ℤ pos 16777216 ≡ pos (16777216 - suc n)
 add-whole n h = rw (le-ltb 16777216 (suc n) (omega arith))
@@ -60,7 +44,7 @@ add-whole n h = rw (le-ltb 16777216 (suc n) (omega arith))
 sfits-below : (n : ℕ) → n < 16777216 → SFits w32 (pos n)
 sfits-below n h = record { sfits = omega arith }
 
-negative-up : (z : ℤ) → inRange z ≡ true → ltZ z (pos 0) ≡ true → z +ℤ pos 16777216 ≡ pos (codeOf z)
+negative-up : (z : ℤ) → within leastSample mostSample z ≡ true → ltZ z (pos 0) ≡ true → z +ℤ pos 16777216 ≡ pos (codeOf z)
 unfolding codeOf
 negative-up (pos n) h l = absurd (omega (arith, ltb-true n 0 l))
 negative-up (negsuc n) h l = add-whole n (in-range-neg n h)
@@ -70,7 +54,7 @@ unfolding codeOf
 not-negative (pos n) l = refl
 not-negative (negsuc n) l = absurd (true≢false l)
 
-module _ (z : ℤ) (fits : SFits w32 z) (range : inRange z ≡ true) where
+module _ (z : ℤ) (fits : SFits w32 z) (range : within leastSample mostSample z ≡ true) where
   pub sum-fits : ltZ (toZ w32 (ofZ w32 z)) (pos 0) ≡ true → SFits w32 (toZ w32 (ofZ w32 z) +ℤ pos 16777216)
   sum-fits l =
       subst (λ (v : ℤ). SFits w32 (v +ℤ pos 16777216)) (sym (toZ-ofZ fits))
@@ -93,7 +77,7 @@ module _ (z : ℤ) (fits : SFits w32 z) (range : inRange z ≡ true) where
   pub cast-is : (v : ℤ) → v ≡ pos (codeOf z) → (natAbs v ≡ codeOf z) × (natAbs v < 16777216)
   cast-is v e = subst (λ (u : ℤ). (natAbs u ≡ codeOf z) × (natAbs u < 16777216)) (sym e) (refl, code-below z range)
 
--- ── a code to its number ───────────────────────────────────────────────────────────────────────
+-- ---- a code to its number
 
 number-low : (c : ℕ) → c < 8388608 → numberOf 24 c ≡ pos c
 unfolding numberOf
@@ -132,9 +116,9 @@ code-negsuc : (c : ℕ) → c < 16777216 → codeOf (negsuc (16777216 - suc c)) 
 unfolding codeOf
 code-negsuc c l = omega arith
 
--- ── there and back ─────────────────────────────────────────────────────────────────────────────
+-- ---- there and back
 
-pub number-code : (z : ℤ) → inRange z ≡ true → numberOf 24 (codeOf z) ≡ z
+pub number-code : (z : ℤ) → within leastSample mostSample z ≡ true → numberOf 24 (codeOf z) ≡ z
 unfolding codeOf
 number-code (pos n) h = number-low n (in-range-pos n h)
 number-code (negsuc n) h =
@@ -147,7 +131,7 @@ code-number c below = by-order c 8388608
     (λ (l : c < 8388608). ap codeOf (number-low c l) ∙ code-pos c)
     (λ (l : 8388608 ≤ c). ap codeOf (number-high c l ∙ sub-whole c below) ∙ code-negsuc c below)
 
-pub number-in-range : (c : ℕ) → c < 16777216 → inRange (numberOf 24 c) ≡ true
+pub number-in-range : (c : ℕ) → c < 16777216 → within leastSample mostSample (numberOf 24 c) ≡ true
 number-in-range c below = by-order c 8388608
-    (λ (l : c < 8388608). ap inRange (number-low c l) ∙ in-range-of-pos c l)
-    (λ (l : 8388608 ≤ c). ap inRange (number-high c l ∙ sub-whole c below) ∙ in-range-of-neg (16777216 - suc c) (omega arith))
+    (λ (l : c < 8388608). ap (within leastSample mostSample) (number-low c l) ∙ in-range-of-pos c l)
+    (λ (l : 8388608 ≤ c). ap (within leastSample mostSample) (number-high c l ∙ sub-whole c below) ∙ in-range-of-neg (16777216 - suc c) (omega arith))

@@ -1,6 +1,5 @@
 pub mod AfterData
-pub mod Blocks
-pub mod Cases
+pub mod ByTest
 pub mod Chunks
 pub mod Codec
 pub mod Complement
@@ -8,6 +7,8 @@ pub mod Little
 pub mod OneAnswer
 pub mod RoundTrips
 pub mod Singles
+pub mod Storing
+pub mod Taking
 pub mod Unread
 pub mod Walks
 pub mod Writing

@@ -11,7 +11,7 @@ use lib.Dec.{eqb}
 use lib.Seq.{sets, sets-eq, getD-drop}
 use Rattle.wave.specs.Bytes.{number, little, field, same}
 
--- ── bytes to a number ──────────────────────────────────────────────────────────────────────────
+-- ---- bytes to a number
 
 pub number-2 : (s : List ℕ) → length s ≡ 2 → number s ≡ getD s 0 0 + 256 * getD s 1 0
 unfolding number
@@ -68,11 +68,10 @@ field-4 s place =
     number-take-4 (drop place s)
     ∙ omega (arith, first-of-drop s place, getD-drop place s 1 0, getD-drop place s 2 0, getD-drop place s 3 0)
 
--- ── names ──────────────────────────────────────────────────────────────────────────────────────
+-- ---- names
 
-pub same-4 :
-    (t name : List ℕ) → 4 ≤ length t → length name ≡ 4
-    → same (take 4 t) name ≡ (eqb (getD t 0 0) (getD name 0 0) && (eqb (getD t 1 0) (getD name 1 0) && (eqb (getD t 2 0) (getD name 2 0) && eqb (getD t 3 0) (getD name 3 0))))
+pub same-4 : (t name : List ℕ) → 4 ≤ length t → length name ≡ 4 →
+    same (take 4 t) name ≡ (eqb (getD t 0 0) (getD name 0 0) && (eqb (getD t 1 0) (getD name 1 0) && (eqb (getD t 2 0) (getD name 2 0) && eqb (getD t 3 0) (getD name 3 0))))
 unfolding same
 same-4 (a ∷ b ∷ x ∷ y ∷ t) (k ∷ l ∷ m ∷ n ∷ []) h e = ap (λ (q : Bool). eqb a k && (eqb b l && (eqb x m && q))) (and-true (eqb y n))
 same-4 [] name h e = absurd (omega arith)
@@ -86,15 +85,14 @@ same-4 (a ∷ b ∷ x ∷ y ∷ t) (k ∷ l ∷ m ∷ []) h e = absurd (omega ar
 same-4 (a ∷ b ∷ x ∷ y ∷ t) (k ∷ l ∷ m ∷ n ∷ o ∷ u) h e = absurd (omega arith)
 
 -- whether four bytes at a place read a name is four tests
-pub same-at :
-    (s name : List ℕ) (place : ℕ) → place + 4 ≤ length s → length name ≡ 4
-    → same (take 4 (drop place s)) name
+pub same-at : (s name : List ℕ) (place : ℕ) → place + 4 ≤ length s → length name ≡ 4 →
+    same (take 4 (drop place s)) name
     ≡ (eqb (getD s place 0) (getD name 0 0) && (eqb (getD s (place + 1) 0) (getD name 1 0) && (eqb (getD s (place + 2) 0) (getD name 2 0) && eqb (getD s (place + 3) 0) (getD name 3 0))))
 same-at s name place h e =
     same-4 (drop place s) name (simp length-drop (omega arith)) e
     ∙ rw (first-of-drop s place, getD-drop place s 1 0, getD-drop place s 2 0, getD-drop place s 3 0)
 
--- ── a number to bytes ──────────────────────────────────────────────────────────────────────────
+-- ---- a number to bytes
 
 pub length-little : (k n : ℕ) → length (little k n) ≡ k
 unfolding little
@@ -120,7 +118,7 @@ pub little-3 : (n : ℕ) → n < 2 ^ 24 → little 3 n ≡ n % 256 ∷ n / 256 %
 unfolding little
 little-3 n h = ap (λ (b : ℕ). n % 256 ∷ n / 256 % 256 ∷ b ∷ []) (third-byte n h)
 
--- ── stores in a row ────────────────────────────────────────────────────────────────────────────
+-- ---- stores in a row
 
 pub stores-3 : (l : List ℕ) (at x y z : ℕ) → set (set (set l at x) (at + 1) y) (at + 2) z ≡ sets l at (x ∷ y ∷ z ∷ [])
 stores-3 l at x y z = rw (add-one, add-two)
@@ -147,9 +145,8 @@ sets-append l (x ∷ xs) ys at =
     ap (λ (k : ℕ). sets (sets (set l at x) (suc at) xs) k ys) (add-suc at (length xs) ∙ sym (suc-add at (length xs)))
     ∙ sets-append (set l at x) xs ys (suc at)
 
-pub behind :
-    (l m n xs ys : List ℕ) (at k : ℕ) → length xs ≡ k
-    → m ≡ sets l at xs → n ≡ sets m (at + k) ys → n ≡ sets l at (xs ++ ys)
+pub behind : (l m n xs ys : List ℕ) (at k : ℕ) → length xs ≡ k →
+    m ≡ sets l at xs → n ≡ sets m (at + k) ys → n ≡ sets l at (xs ++ ys)
 behind l m n xs ys at k long first second =
     second ∙ ap (λ (r : List ℕ). sets r (at + k) ys) first
     ∙ ap (λ (j : ℕ). sets (sets l at xs) (at + j) ys) (sym long) ∙ sets-append l xs ys at

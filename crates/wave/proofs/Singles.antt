@@ -9,31 +9,29 @@ use native.Mathlib.Omega.{arith}
 use lib.ListN.{length, getD, take, drop, length-drop}
 use lib.Seq.{length-take-le}
 use lib.IntN.{ℤ, pos}
-use Rattle.wave.specs.Answer.{accepted}
+use Rattle.answers.specs.Range.{allWithin}
+use Rattle.answers.specs.Unit.{leastSample, mostSample}
+use Rattle.answers.proofs.Ranges.{all-at, all-cons}
 use Rattle.wave.specs.Bytes.{number, little}
-use Rattle.wave.specs.Sample.{inRange, numberOf, codeOf, sampleIn, fromBytes, toBytes}
-use Rattle.wave.specs.Block.{sizeOf, samplesOf, allInRange, bytesOf}
+use Rattle.wave.specs.Sample.{numberOf, codeOf, sampleIn, fromBytes, toBytes}
+use Rattle.wave.specs.Samples.{samplesOf, bytesOf}
+use Rattle.wave.specs.Values.{sizeOf}
 use Rattle.wave.specs.declared.format.Format.{Format}
 use Rattle.wave.specs.declared.format.Format.the-variants.{Bits16, Bits24}
-use Rattle.wave.proofs.Cases.{and-left, and-right}
+use Rattle.wave.specs.declared.sample.Put.the-variants.{Done}
+use Rattle.wave.specs.declared.sample.Sample.the-variants.{Is}
 use Rattle.wave.proofs.Complement.{number-code, code-below}
-use Rattle.wave.proofs.Codec.{from-two, from-three, to-three}
-use Rattle.wave.proofs.Blocks.{samples-at, all-at}
+use Rattle.wave.proofs.Codec.{from-whole, to-three}
+use Rattle.wave.proofs.Taking.{samples-at}
 use Rattle.wave.proofs.RoundTrips.{number-little-3}
 
--- the bytes of one sample make the sample of their format
-one-of : (format : Format) (s : List ℕ) → length s ≡ sizeOf format → fromBytes s ≡ accepted (sampleIn format s)
-one-of Bits16 s h = sym (from-two s (sampleIn Bits16 s) h refl)
-one-of Bits24 s h = sym (from-three s (sampleIn Bits24 s) h refl)
-
 -- sample i of a block is the single call's on the bytes at its place
-pub from-singles :
-    (n : ℕ) (format : Format) (s : List ℕ) (i : ℕ) → i < n → sizeOf format * n ≤ length s
-    → fromBytes (take (sizeOf format) (drop (sizeOf format * i) s)) ≡ accepted (getD (samplesOf n format s) i (pos 0))
+pub from-singles : (n : ℕ) (format : Format) (s : List ℕ) (i : ℕ) → i < n → sizeOf format * n ≤ length s →
+    fromBytes (take (sizeOf format) (drop (sizeOf format * i) s)) ≡ Is (getD (samplesOf n format s) i (pos 0))
 from-singles n format s i h room =
-    one-of format (take (sizeOf format) (drop (sizeOf format * i) s))
+    from-whole format (take (sizeOf format) (drop (sizeOf format * i) s))
     (length-take-le (sizeOf format) (drop (sizeOf format * i) s) (left format n i (length s) h room (length-drop (sizeOf format * i) s)))
-    ∙ ap accepted (sym (samples-at n format s i h))
+    ∙ ap Is (sym (samples-at n format s i h))
   where
     left : (f : Format) (m j k : ℕ) → j < m → sizeOf f * m ≤ k → {l : ℕ} → l ≡ k - sizeOf f * j → sizeOf f ≤ l
     left Bits16 m j k a b e = omega arith
@@ -52,18 +50,19 @@ bytes-at (z ∷ samples) (suc i) h =
     three-more j = omega arith
 
 -- the bytes of sample i of a block are the single call's
-pub to-singles :
-    (samples : List ℤ) (buffer : List ℕ) (i : ℕ) → allInRange samples ≡ true → i < length samples → length buffer ≡ 3
-    → toBytes (getD samples i (pos 0)) buffer ≡ (accepted 3, take 3 (drop (3 * i) (bytesOf samples)))
+pub to-singles : (samples : List ℤ) (buffer : List ℕ) (i : ℕ) → allWithin leastSample mostSample samples ≡ true → i < length samples → length buffer ≡ 3 →
+    toBytes (getD samples i (pos 0)) buffer ≡ record { result = Done 3; lent = take 3 (drop (3 * i) (bytesOf samples)) }
 to-singles samples buffer i range h three =
-    sym (to-three (getD samples i (pos 0)) buffer (take 3 (drop (3 * i) (bytesOf samples))) three (all-at samples i range h) (bytes-at samples i h))
+    to-three (getD samples i (pos 0)) buffer three (all-at leastSample mostSample samples range i h)
+    ∙ ap (λ (t : List ℕ). record { result = Done 3; lent = t }) (sym (bytes-at samples i h))
 
 -- a block of samples written and taken again is itself
-pub block-there-and-back : (samples : List ℤ) → allInRange samples ≡ true → samplesOf (length samples) Bits24 (bytesOf samples) ≡ samples
-unfolding samplesOf bytesOf allInRange little sampleIn
+pub block-there-and-back : (samples : List ℤ) → allWithin leastSample mostSample samples ≡ true → samplesOf (length samples) Bits24 (bytesOf samples) ≡ samples
+unfolding samplesOf bytesOf little sampleIn
 block-there-and-back [] h = refl
 block-there-and-back (z ∷ samples) h =
-    let range = and-left (inRange z) (allInRange samples) h in
-    let same-sample : numberOf 24 (number (little 3 (codeOf z))) ≡ z = ap (numberOf 24) (number-little-3 (codeOf z) (code-below z range)) ∙ number-code z range in
+    let range = all-cons leastSample mostSample z samples h in
+    let same-sample : numberOf 24 (number (little 3 (codeOf z))) ≡ z =
+    ap (numberOf 24) (number-little-3 (codeOf z) (code-below z (range .0))) ∙ number-code z (range .0) in
     ap (λ (y : ℤ). y ∷ samplesOf (length samples) Bits24 (bytesOf samples)) same-sample
-    ∙ ap (λ (r : List ℤ). z ∷ r) (block-there-and-back samples (and-right (inRange z) (allInRange samples) h))
+    ∙ ap (λ (r : List ℤ). z ∷ r) (block-there-and-back samples (range .1))

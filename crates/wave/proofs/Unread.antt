@@ -7,6 +7,7 @@ use native.Mathlib.Omega.{arith}
 use lib.ListN.{length, take, drop}
 use lib.Seq.{take-take, drop-drop}
 use lib.Dec.{lit≤}
+use Rattle.answers.specs.Unit.{frontLength}
 use Rattle.wave.specs.Walk.{Seen, nothing, chunk, follow, walk, judge, readOf}
 use Rattle.wave.proofs.Walks.{further, follow-same}
 
@@ -16,8 +17,7 @@ from-8 a b e k l =
     let split : 8 + (k - 8) ≡ k = omega arith in
     ap (λ (n : ℕ). drop n a) (sym split) ∙ sym (drop-drop (k - 8) 8 a) ∙ ap (drop (k - 8)) e ∙ drop-drop (k - 8) 8 b ∙ ap (λ (n : ℕ). drop n b) split
 
-walk-same :
-    (n : ℕ) (a b : List ℕ) → drop 8 a ≡ drop 8 b → (at : ℕ) (seen : Seen) → 8 ≤ at → walk n a at seen ≡ walk n b at seen
+walk-same : (n : ℕ) (a b : List ℕ) → drop 8 a ≡ drop 8 b → (at : ℕ) (seen : Seen) → 8 ≤ at → walk n a at seen ≡ walk n b at seen
 unfolding walk
 walk-same zero a b e at seen l = refl
 walk-same (suc n) a b e at seen l =
@@ -33,14 +33,13 @@ judge-same a b long names rest =
     rw (walks, names, rest, long)
 
 -- two fronts as long as each other that agree but for bytes 4 to 7 get the same answer, whatever follows them
-pub unread :
-    (s t : List ℕ) → length (take 4096 s) ≡ length (take 4096 t) → take 4 s ≡ take 4 t
-    → drop 8 (take 4096 s) ≡ drop 8 (take 4096 t) → readOf s ≡ readOf t
+pub unread : (s t : List ℕ) → length (take frontLength s) ≡ length (take frontLength t) → take 4 s ≡ take 4 t →
+    drop 8 (take frontLength s) ≡ drop 8 (take frontLength t) → readOf s ≡ readOf t
 unfolding readOf
 unread s t long names rest =
-    judge-same (take 4096 s) (take 4096 t) long (take-take 4 4096 s (lit≤ tt) ∙ names ∙ sym (take-take 4 4096 t (lit≤ tt))) rest
+    judge-same (take frontLength s) (take frontLength t) long (take-take 4 frontLength s (lit≤ tt) ∙ names ∙ sym (take-take 4 frontLength t (lit≤ tt))) rest
 
 -- two files with the same first 4,096 bytes get the same answer
-pub past-4096 : (s t : List ℕ) → take 4096 s ≡ take 4096 t → readOf s ≡ readOf t
+pub past-4096 : (s t : List ℕ) → take frontLength s ≡ take frontLength t → readOf s ≡ readOf t
 unfolding readOf
 past-4096 s t e = ap judge e

@@ -10,15 +10,16 @@ use lib.ListN.{length, take, drop, length-drop}
 use lib.Seq.{take-all}
 use lib.Dec.{eqb, leb}
 use borrow.Author.Tests.{leb-true, le-leb, lt-leb}
-use Rattle.wave.specs.Answer.{Answer, refused}
+use Rattle.answers.specs.Unit.{frontLength}
+use Rattle.answers.specs.Answer.{Answer, refused}
 use Rattle.wave.specs.Bytes.{field, same}
 use Rattle.wave.specs.Names.{riff, wave, fmt, data′}
 use Rattle.wave.specs.Values.{right}
 use Rattle.wave.specs.Walk.{Found, Seen, nothing, sound, Step, ends, on, next, first, values, fmtChunk, chunk, follow, walk, judge, readOf}
-use Rattle.wave.proofs.Cases.{cond-case}
+use Rattle.wave.proofs.ByTest.{cond-case}
 use Rattle.wave.proofs.Chunks.{chunk-cut}
 
--- ── a step goes further ────────────────────────────────────────────────────────────────────────
+-- ---- a step goes further
 
 -- a step on leaves a whole header behind
 pub data Further (rest : List ℕ) (at : ℕ) : Step → Type 0 where
@@ -58,17 +59,16 @@ further rest at seen =
     (λ _. stops)
 
 -- two ways of going on that agree further on agree on a step
-pub follow-same :
-    (rest : List ℕ) (at : ℕ) (f g : ℕ → Seen → Answer Found) (step : Step) → Further rest at step
-    → ((place : ℕ) (seen : Seen) → at + 8 ≤ place → f place seen ≡ g place seen)
-    → follow f step ≡ follow g step
+pub follow-same : (rest : List ℕ) (at : ℕ) (f g : ℕ → Seen → Answer Found) (step : Step) → Further rest at step →
+    ((place : ℕ) (seen : Seen) → at + 8 ≤ place → f place seen ≡ g place seen) →
+    follow f step ≡ follow g step
 follow-same rest at f g (ends answer) stops agree = refl
 follow-same rest at f g (on place seen) (goes whole far) agree = agree place seen far
 
--- ── steps enough ───────────────────────────────────────────────────────────────────────────────
+-- ---- steps enough
 
 -- where no byte is left the walk ends
-chunk-past : (front : List ℕ) (at : ℕ) (seen : Seen) → length front ≤ at + 7 → chunk (drop at front) at seen ≡ ends (refused 24)
+chunk-past : (front : List ℕ) (at : ℕ) (seen : Seen) → length front ≤ at + 7 → chunk (drop at front) at seen ≡ ends (refused 24 0)
 chunk-past front at seen l = sym (chunk-cut (drop at front) at seen (simp length-drop (omega arith)))
 
 pub walk-more : (n : ℕ) (front : List ℕ) (at : ℕ) (seen : Seen) → length front ≤ at + 8 * n → walk (suc n) front at seen ≡ walk n front at seen
@@ -79,31 +79,29 @@ walk-more (suc n) front at seen l =
     (λ place met far. walk-more n front place met (omega arith))
 
 -- a chunk in the part of the front that is lent, as a chunk of the rest of the front
-pub of-part :
-    (front : List ℕ) (at : ℕ) (seen : Seen) (step : Step) → step ≡ chunk (take (length front - at) (drop at front)) at seen
-    → chunk (drop at front) at seen ≡ step
+pub of-part : (front : List ℕ) (at : ℕ) (seen : Seen) (step : Step) → step ≡ chunk (take (length front - at) (drop at front)) at seen →
+    chunk (drop at front) at seen ≡ step
 of-part front at seen step e =
     ap (λ (r : List ℕ). chunk r at seen) (sym (take-all (length front - at) (drop at front) (simp length-drop (omega arith)))) ∙ sym e
 
--- ── the walk with as many steps as bytes ───────────────────────────────────────────────────────
+-- ---- the walk with as many steps as bytes
 
 module _ (front : List ℕ) (at : ℕ) (seen : Seen) where
   ends-with : (n : ℕ) (answer : Answer Found) → length front ≡ n → chunk (drop at front) at seen ≡ ends answer → walk n front at seen ≡ answer
   unfolding walk
   ends-with zero answer none e =
-      let p : ends (refused 24) ≡ ends answer = sym (chunk-past front at seen (omega arith)) ∙ e in
+      let p : ends (refused 24 0) ≡ ends answer = sym (chunk-past front at seen (omega arith)) ∙ e in
       cc p
   ends-with (suc n) answer some e = ap (follow (walk n front)) e
 
   pub walk-ends : (answer : Answer Found) → chunk (drop at front) at seen ≡ ends answer → walk (length front) front at seen ≡ answer
   walk-ends answer e = ends-with (length front) answer refl e
 
-  pub walk-past : length front ≤ at + 7 → walk (length front) front at seen ≡ refused 24
-  walk-past l = walk-ends (refused 24) (chunk-past front at seen l)
+  pub walk-past : length front ≤ at + 7 → walk (length front) front at seen ≡ refused 24 0
+  walk-past l = walk-ends (refused 24 0) (chunk-past front at seen l)
 
-  on-with :
-      (n place : ℕ) (met : Seen) → length front ≡ n → 8 ≤ length (drop at front) → at + 8 ≤ place
-      → chunk (drop at front) at seen ≡ on place met → walk n front at seen ≡ walk n front place met
+  on-with : (n place : ℕ) (met : Seen) → length front ≡ n → 8 ≤ length (drop at front) → at + 8 ≤ place →
+      chunk (drop at front) at seen ≡ on place met → walk n front at seen ≡ walk n front place met
   unfolding walk
   on-with zero place met none whole far e = absurd (omega (arith, length-drop at front))
   on-with (suc n) place met some whole far e = ap (follow (walk n front)) e ∙ sym (walk-more n front place met (omega arith))
@@ -117,20 +115,20 @@ module _ (front : List ℕ) (at : ℕ) (seen : Seen) where
   pub walk-on : (place : ℕ) (met : Seen) → chunk (drop at front) at seen ≡ on place met → walk (length front) front at seen ≡ walk (length front) front place met
   walk-on place met e = let far = went-on place met e in on-with (length front) place met refl (far .0) (far .1) e
 
--- ── the cases of `judge` and `readOf` ──────────────────────────────────────────────────────────
+-- ---- the cases of `judge` and `readOf`
 
 module _ (front : List ℕ) where
-  pub judge-short : length front < 12 → refused 21 ≡ judge front
+  pub judge-short : length front < 12 → refused 21 0 ≡ judge front
   unfolding judge
   judge-short l = rw (lt-leb 12 (length front) l)
 
   module _ (l : 12 ≤ length front) where
-    pub judge-riff : same (take 4 front) riff ≡ false → refused 21 ≡ judge front
+    pub judge-riff : same (take 4 front) riff ≡ false → refused 21 0 ≡ judge front
     unfolding judge
     judge-riff r = rw (le-leb 12 (length front) l, r)
 
     module _ (r : same (take 4 front) riff ≡ true) where
-      pub judge-wave : same (take 4 (drop 8 front)) wave ≡ false → refused 21 ≡ judge front
+      pub judge-wave : same (take 4 (drop 8 front)) wave ≡ false → refused 21 0 ≡ judge front
       unfolding judge
       judge-wave w = rw (le-leb 12 (length front) l, r, w)
 
@@ -138,10 +136,10 @@ module _ (front : List ℕ) where
       unfolding judge
       judge-walk answer w e = rw (le-leb 12 (length front) l, r, w) e
 
-pub read-whole : (lent : List ℕ) → length lent ≤ 4096 → judge lent ≡ readOf lent
+pub read-whole : (lent : List ℕ) → length lent ≤ frontLength → judge lent ≡ readOf lent
 unfolding readOf
-read-whole lent l = ap judge (sym (take-all 4096 lent l))
+read-whole lent l = ap judge (sym (take-all frontLength lent l))
 
-pub read-front : (lent : List ℕ) → judge (take 4096 lent) ≡ readOf lent
+pub read-front : (lent : List ℕ) → judge (take frontLength lent) ≡ readOf lent
 unfolding readOf
 read-front lent = refl

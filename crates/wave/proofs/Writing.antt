@@ -1,23 +1,21 @@
--- The header writer: rows stored one behind the other are the header, and each way through `write` is a case of `writeOf`.
--- Assumes nothing.
+-- The header writer: rows stored one behind the other are the header. Assumes nothing.
 use mathlib.Core.Path.{_≡_, refl, sym, ap, _∙_, subst}
-use mathlib.Core.Bool.{Bool, true, false, _||_}
+use mathlib.Core.Bool.{Bool, true, _||_}
 use mathlib.Core.List.{List, _++_}
-use Prim.Native.Nat.{ℕ, _+_, _*_, _%_, _<_, _≤_}
+use Prim.Native.Nat.{ℕ, _+_, _*_, _≤_}
 use native.Mathlib.Omega.{arith}
 use lib.ListN.{length, length-append}
 use lib.Seq.{sets}
 use lib.Dec.{eqb}
-use borrow.Author.Tests.{eq-eqb, ne-eqb, le-leb, lt-leb, eqb-true}
-use Rattle.wave.specs.Answer.{accepted, refused}
+use borrow.Author.Tests.{eqb-true}
 use Rattle.wave.specs.Bytes.{little}
 use Rattle.wave.specs.Names.{riff, wave, fmt, data′}
 use Rattle.wave.specs.Values.{knownRate}
-use Rattle.wave.specs.Header.{chunkHeader, fmtContents, header, writeOf}
-use Rattle.wave.proofs.Cases.{by-test}
+use Rattle.wave.specs.Header.{chunkHeader, fmtContents, header}
+use Rattle.wave.proofs.ByTest.{by-test}
 use Rattle.wave.proofs.Little.{length-little, behind, sets-whole}
 
--- ── rows ───────────────────────────────────────────────────────────────────────────────────────
+-- ---- rows
 
 pub length-chunk : (name : List ℕ) (size : ℕ) → length name ≡ 4 → length (chunkHeader name size) ≡ 8
 unfolding chunkHeader
@@ -33,18 +31,16 @@ pub length-header : (rate size : ℕ) → length (header rate size) ≡ 44
 unfolding header chunkHeader fmtContents little
 length-header rate size = refl
 
-pub chunk-row :
-    (l m n name : List ℕ) (at size : ℕ) → length name ≡ 4
-    → m ≡ sets l at name → n ≡ sets m (at + 4) (little 4 size)
-    → n ≡ sets l at (chunkHeader name size)
+pub chunk-row : (l m n name : List ℕ) (at size : ℕ) → length name ≡ 4 →
+    m ≡ sets l at name → n ≡ sets m (at + 4) (little 4 size) →
+    n ≡ sets l at (chunkHeader name size)
 unfolding chunkHeader
 chunk-row l m n name at size four e₁ e₂ = behind l m n name (little 4 size) at 4 four e₁ e₂
 
-pub fmt-row :
-    (rate at : ℕ) (l m₁ m₂ m₃ m₄ m₅ m₆ : List ℕ)
-    → m₁ ≡ sets l at (little 2 1) → m₂ ≡ sets m₁ (at + 2) (little 2 1) → m₃ ≡ sets m₂ (at + 4) (little 4 rate)
-    → m₄ ≡ sets m₃ (at + 8) (little 4 (rate * 3)) → m₅ ≡ sets m₄ (at + 12) (little 2 3) → m₆ ≡ sets m₅ (at + 14) (little 2 24)
-    → m₆ ≡ sets l at (fmtContents rate)
+pub fmt-row : (rate at : ℕ) (l m₁ m₂ m₃ m₄ m₅ m₆ : List ℕ) →
+    m₁ ≡ sets l at (little 2 1) → m₂ ≡ sets m₁ (at + 2) (little 2 1) → m₃ ≡ sets m₂ (at + 4) (little 4 rate) →
+    m₄ ≡ sets m₃ (at + 8) (little 4 (rate * 3)) → m₅ ≡ sets m₄ (at + 12) (little 2 3) → m₆ ≡ sets m₅ (at + 14) (little 2 24) →
+    m₆ ≡ sets l at (fmtContents rate)
 unfolding fmtContents
 fmt-row rate at l m₁ m₂ m₃ m₄ m₅ m₆ e₁ e₂ e₃ e₄ e₅ e₆ =
     let t₅ = little 2 3 ++ little 2 24 in
@@ -61,11 +57,10 @@ fmt-row rate at l m₁ m₂ m₃ m₄ m₅ m₆ e₁ e₂ e₃ e₄ e₅ e₆ =
     shift : (k j : ℕ) (m n ys : List ℕ) → n ≡ sets m (at + (k + j)) ys → n ≡ sets m (at + k + j) ys
     shift k j m n ys e = e ∙ ap (λ (i : ℕ). sets m i ys) (omega arith)
 
-pub header-row :
-    (rate size : ℕ) (l m₁ m₂ m₃ m₄ m₅ : List ℕ) → length l ≡ 44
-    → m₁ ≡ sets l 0 (chunkHeader riff (size + 36)) → m₂ ≡ sets m₁ 8 wave → m₃ ≡ sets m₂ 12 (chunkHeader fmt 16)
-    → m₄ ≡ sets m₃ 20 (fmtContents rate) → m₅ ≡ sets m₄ 36 (chunkHeader data′ size)
-    → m₅ ≡ header rate size
+pub header-row : (rate size : ℕ) (l m₁ m₂ m₃ m₄ m₅ : List ℕ) → length l ≡ 44 →
+    m₁ ≡ sets l 0 (chunkHeader riff (size + 36)) → m₂ ≡ sets m₁ 8 wave → m₃ ≡ sets m₂ 12 (chunkHeader fmt 16) →
+    m₄ ≡ sets m₃ 20 (fmtContents rate) → m₅ ≡ sets m₄ 36 (chunkHeader data′ size) →
+    m₅ ≡ header rate size
 unfolding header
 header-row rate size l m₁ m₂ m₃ m₄ m₅ whole e₁ e₂ e₃ e₄ e₅ =
     let t₄ = fmtContents rate ++ chunkHeader data′ size in
@@ -77,7 +72,7 @@ header-row rate size l m₁ m₂ m₃ m₄ m₅ whole e₁ e₂ e₃ e₄ e₅ =
     let f₁ : m₅ ≡ sets l 0 (header rate size) = behind l m₁ m₅ (chunkHeader riff (size + 36)) t₂ 0 8 (length-chunk riff (size + 36) refl) e₁ f₂ in
     f₁ ∙ sets-whole l (header rate size) (length-header rate size ∙ sym whole)
 
--- ── the cases of `writeOf` ─────────────────────────────────────────────────────────────────────
+-- ---- the rate
 
 -- neither rate is above 48,000
 pub rate-small : (rate : ℕ) → knownRate rate ≡ true → rate ≤ 48000
@@ -86,25 +81,3 @@ rate-small rate h =
     by-test (eqb rate 44100)
     (λ t. omega (arith, eqb-true rate 44100 t))
     (λ t. omega (arith, eqb-true rate 48000 (subst (λ (b : Bool). (b || eqb rate 48000) ≡ true) t h)))
-
-module _ (s : List ℕ) (rate size : ℕ) where
-  pub write-other : (length s ≡ 44 → ⊥) → (refused 27, s) ≡ writeOf s rate size
-  unfolding writeOf
-  write-other h = rw (ne-eqb (length s) 44 h)
-
-  module _ (whole : length s ≡ 44) where
-    pub write-rate : knownRate rate ≡ false → (refused 28, s) ≡ writeOf s rate size
-    unfolding writeOf
-    write-rate h = rw (eq-eqb (length s) 44 whole, h)
-
-    pub write-part : knownRate rate ≡ true → (size % 3 ≡ 0 → ⊥) → (refused 26, s) ≡ writeOf s rate size
-    unfolding writeOf
-    write-part k h = rw (eq-eqb (length s) 44 whole, k, ne-eqb (size % 3) 0 h)
-
-    pub write-large : knownRate rate ≡ true → size % 3 ≡ 0 → 4294967259 < size → (refused 26, s) ≡ writeOf s rate size
-    unfolding writeOf
-    write-large k h l = rw (eq-eqb (length s) 44 whole, k, eq-eqb (size % 3) 0 h, lt-leb size 4294967259 l)
-
-    pub write-header : (t : List ℕ) → knownRate rate ≡ true → size % 3 ≡ 0 → size ≤ 4294967259 → t ≡ header rate size → (accepted 44, t) ≡ writeOf s rate size
-    unfolding writeOf
-    write-header t k h l e = rw (eq-eqb (length s) 44 whole, k, eq-eqb (size % 3) 0 h, le-leb size 4294967259 l, e)

@@ -1,10 +1,10 @@
 -- The header writer, from the page's section WAVE and its row "writer".
 use Prim.Native.Nat.{ℕ, _+_, _*_, _%_}
-use mathlib.Core.Bool.{_&&_, cond}
-use mathlib.Core.List.{List, _++_}
+use mathlib.Core.List.{List, [], _∷_, _++_}
 use lib.ListN.{length}
 use lib.Dec.{eqb, leb}
-use Rattle.wave.specs.Answer.{Answer, accepted, refused}
+use Rattle.answers.specs.Answer.{Answer, accepted, refused}
+use Rattle.answers.specs.Checks.{Check, check, Outcome, decide}
 use Rattle.wave.specs.Bytes.{little}
 use Rattle.wave.specs.Names.{riff, wave, fmt, data′}
 use Rattle.wave.specs.Values.{knownRate}
@@ -24,19 +24,21 @@ unfoldable pub header : ℕ → ℕ → List ℕ
 header rate size =
     chunkHeader riff (size + 36) ++ (wave ++ (chunkHeader fmt 16 ++ (fmtContents rate ++ chunkHeader data′ size)))
 
--- the answer and the buffer afterwards: "27 buffer not 44 bytes; 28 rate neither of the two; 26 length not a multiple of 3 or above 4,294,967,259"
-unfoldable pub writeOf : List ℕ → ℕ → ℕ → Answer ℕ × List ℕ
-writeOf buffer rate size =
-    cond (eqb (length buffer) 44)
-    (cond (knownRate rate)
-    (cond (eqb (size % 3) 0 && leb size 4294967259) (accepted 44, header rate size)
-    (refused 26, buffer))
-    (refused 28, buffer))
-    (refused 27, buffer)
+-- the checks of `write`: a buffer of 44 bytes, one of the two rates, a length of whole samples that the RIFF size can hold
+abbrev pub writeChecks : List ℕ → ℕ → ℕ → List (Check Written)
+writeChecks buffer rate size =
+    check (eqb (length buffer) 44) WrongBuffer ∷
+    check (knownRate rate) WrongRate ∷
+    check (eqb (size % 3) 0) WrongLength ∷
+    check (leb size 4294967259) WrongLength ∷ []
 
--- the page's numbers and values for `Written`
+-- `write`, with the buffer afterwards
+unfoldable pub writeOf : List ℕ → ℕ → ℕ → Outcome Written (List ℕ)
+writeOf buffer rate size = decide (writeChecks buffer rate size) buffer (Header 44) (header rate size)
+
+-- numbers and values for `Written`
 abbrev pub writeAnswer : Written → Answer ℕ
 writeAnswer (Header n) = accepted n
-writeAnswer WrongBuffer = refused 27
-writeAnswer WrongRate = refused 28
-writeAnswer WrongLength = refused 26
+writeAnswer WrongBuffer = refused 27 0
+writeAnswer WrongRate = refused 28 0
+writeAnswer WrongLength = refused 26 0

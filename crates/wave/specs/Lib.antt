@@ -1,9 +1,8 @@
-pub mod Answer
-pub mod Block
 pub mod Bytes
-pub mod Code
 pub mod Header
 pub mod Names
+pub mod Private
 pub mod Sample
+pub mod Samples
 pub mod Values
 pub mod Walk

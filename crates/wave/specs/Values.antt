@@ -5,20 +5,24 @@ use lib.Dec.{eqb}
 use Rattle.wave.specs.declared.format.Format.{Format}
 use Rattle.wave.specs.declared.format.Format.the-variants.{Bits16, Bits24}
 
--- the page's number for a format: its bits
+-- the bits of one sample
 abbrev pub bitsOf : Format → ℕ
 bitsOf Bits16 = 16
 bitsOf Bits24 = 24
 
--- "block size bits/8"
+-- a block is one sample: its bits over 8
 abbrev pub blockSize : ℕ → ℕ
 blockSize bits = bits / 8
 
--- "rate 44,100 or 48,000"
+-- the bytes of one sample
+abbrev pub sizeOf : Format → ℕ
+sizeOf format = blockSize (bitsOf format)
+
+-- the rate is one of the two
 unfoldable pub knownRate : ℕ → Bool
 knownRate rate = eqb rate 44100 || eqb rate 48000
 
--- "bits 16 or 24"
+-- the bits are one of the two
 unfoldable pub knownBits : ℕ → Bool
 knownBits bits = eqb bits 16 || eqb bits 24
 

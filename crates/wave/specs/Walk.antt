@@ -4,7 +4,8 @@ use mathlib.Core.Bool.{_&&_, cond}
 use mathlib.Core.List.{List}
 use lib.ListN.{length, take, drop}
 use lib.Dec.{eqb, leb}
-use Rattle.wave.specs.Answer.{Answer, accepted, refused}
+use Rattle.answers.specs.Answer.{Answer, accepted, refused}
+use Rattle.answers.specs.Unit.{frontLength}
 use Rattle.wave.specs.Bytes.{field, same}
 use Rattle.wave.specs.Names.{riff, wave, fmt, data′}
 use Rattle.wave.specs.Values.{bitsOf, blockSize, right}
@@ -35,30 +36,30 @@ next at size = at + 8 + size
 -- "a second one, 23"
 unfoldable pub first : Seen → Step → Step
 first nothing step = step
-first (sound rate bits) step = ends (refused 23)
+first (sound rate bits) step = ends (refused 23 0)
 
 -- "or a wrong value, 23"; else the walk goes on with the rate and the bits
 unfoldable pub values : List ℕ → ℕ → Step
 values rest at =
     cond (right (field rest 8 2) (field rest 10 2) (field rest 12 4) (field rest 16 4) (field rest 20 2) (field rest 22 2))
     (on (next at 16) (sound (field rest 12 4) (field rest 22 2)))
-    (ends (refused 23))
+    (ends (refused 23 0))
 
 -- "`fmt `: length not 16, 23; contents not wholly in the front, 24; a second one, or a wrong value, 23."
 unfoldable pub fmtChunk : List ℕ → ℕ → Seen → Step
 fmtChunk rest at seen =
     cond (eqb (field rest 4 4) 16)
     (cond (leb 24 (length rest)) (first seen (values rest at))
-    (ends (refused 24)))
-    (ends (refused 23))
+    (ends (refused 24 0)))
+    (ends (refused 23 0))
 
 -- "`data`: no `fmt ` before it, 22; length not a multiple of the block size, 25; else accepted with rate, bits, length and start."
 unfoldable pub dataChunk : ℕ → ℕ → Seen → Answer Found
-dataChunk size at nothing = refused 22
+dataChunk size at nothing = refused 22 0
 dataChunk size at (sound rate bits) =
     cond (eqb (size % blockSize bits) 0)
     (accepted (record { rate = rate; bits = bits; size = size; start = at + 8 }))
-    (refused 25)
+    (refused 25 0)
 
 -- "At a chunk: header not wholly in the front, 24." `rest` is the front from the chunk on. "Other chunks are passed over."
 unfoldable pub chunk : List ℕ → ℕ → Seen → Step
@@ -67,7 +68,7 @@ chunk rest at seen =
     (cond (same (take 4 rest) fmt) (fmtChunk rest at seen)
     (cond (same (take 4 rest) data′) (ends (dataChunk (field rest 4 4) at seen))
     (on (next at (field rest 4 4)) seen)))
-    (ends (refused 24))
+    (ends (refused 24 0))
 
 -- an answer ends the walk; else it goes on
 abbrev pub follow : (ℕ → Seen → Answer Found) → Step → Answer Found
@@ -76,7 +77,7 @@ follow walk (on at seen) = walk at seen
 
 -- the walk from a chunk on, for a number of steps; a front has fewer chunks than bytes, so that as many steps as bytes are never spent
 unfoldable pub walk : ℕ → List ℕ → ℕ → Seen → Answer Found
-walk zero front at seen = refused 24
+walk zero front at seen = refused 24 0
 walk (suc steps) front at seen = follow (walk steps front) (chunk (drop at front) at seen)
 
 -- "bytes 0 to 3 read RIFF and bytes 8 to 11 read WAVE; bytes 4 to 7 are not judged. Chunks start at 12"; "21 front under 12 bytes or names wrong"
@@ -84,17 +85,17 @@ unfoldable pub judge : List ℕ → Answer Found
 judge front =
     cond (leb 12 (length front) && (same (take 4 front) riff && same (take 4 (drop 8 front)) wave))
     (walk (length front) front 12 nothing)
-    (refused 21)
+    (refused 21 0)
 
--- "If more is lent, it judges the first 4,096 only."
+-- `read`: of more bytes than the front has, the front alone is judged
 unfoldable pub readOf : List ℕ → Answer Found
-readOf lent = judge (take 4096 lent)
+readOf lent = judge (take frontLength lent)
 
--- the page's numbers and values for `Reading`
+-- numbers and values for `Reading`
 abbrev pub readAnswer : Reading → Answer Found
 readAnswer (Accepted rate format size start) = accepted (record { rate = rate; bits = bitsOf format; size = size; start = start })
-readAnswer NotWave = refused 21
-readAnswer NoFormat = refused 22
-readAnswer WrongFormat = refused 23
-readAnswer CutOff = refused 24
-readAnswer PartSample = refused 25
+readAnswer NotWave = refused 21 0
+readAnswer NoFormat = refused 22 0
+readAnswer WrongFormat = refused 23 0
+readAnswer CutOff = refused 24 0
+readAnswer PartSample = refused 25 0

@@ -1,6 +1,6 @@
 // One chunk of the reader's walk. `rest` is the front from the chunk on, and `at` the chunk's place in it.
 use crate::format::Format;
-use crate::format::block_size;
+use crate::format::bytes_each;
 use crate::format::right;
 use crate::get::four;
 use crate::get::named;
@@ -10,18 +10,18 @@ ghost use mathlib.Core.Path.{_≡_};
 ghost use Prim.Native.Nat.{_≤_, _<_, _^_};
 ghost use lib.ListN.{length};
 ghost use Rattle.wave.specs.Walk.{next, values, fmtChunk, dataChunk, chunk, readAnswer};
-ghost use Rattle.wave.specs.Code.{seenOf, stepOf};
+ghost use Rattle.wave.specs.Private.{seenOf, stepOf};
 
 // The `fmt ` that the walk has met.
-pub(crate) enum Heard {
+pub(crate) enum Seen {
     Nothing,
     Sound(u32, Format),
 }
 
 // What a chunk comes to: the answer, or the next chunk's place.
-pub(crate) enum Turn {
+pub(crate) enum Step {
     Ends(Reading),
-    On(usize, Heard),
+    On(usize, Seen),
 }
 
 // Where the next chunk starts. In 64 bits no declared length wraps.
@@ -32,7 +32,7 @@ fn next_chunk(at: usize, size: u32) -> usize
     at + 8 + size as usize
 }
 
-fn format_values(rest: &[u8], at: usize) -> Turn
+fn format_values(rest: &[u8], at: usize) -> Step
     requires { ⌜ (24 ≤ length (now rest)) × (at < 2 ^ 63) ⌝ }
     ensures { λ r. ⌜ stepOf r ≡ values (now (rest .entry)) at ⌝ }
 {
@@ -47,37 +47,37 @@ fn format_values(rest: &[u8], at: usize) -> Turn
         bits,
     ) {
         if bits == 16 {
-            return Turn::On(next_chunk(at, 16), Heard::Sound(rate, Format::Bits16));
+            return Step::On(next_chunk(at, 16), Seen::Sound(rate, Format::Bits16));
         }
-        return Turn::On(next_chunk(at, 16), Heard::Sound(rate, Format::Bits24));
+        return Step::On(next_chunk(at, 16), Seen::Sound(rate, Format::Bits24));
     }
-    Turn::Ends(Reading::WrongFormat)
+    Step::Ends(Reading::WrongFormat)
 }
 
-fn format_chunk(rest: &[u8], at: usize, heard: Heard) -> Turn
+fn format_chunk(rest: &[u8], at: usize, seen: Seen) -> Step
     requires { ⌜ (8 ≤ length (now rest)) × (at < 2 ^ 63) ⌝ }
-    ensures { λ r. ⌜ stepOf r ≡ fmtChunk (now (rest .entry)) at (seenOf heard) ⌝ }
+    ensures { λ r. ⌜ stepOf r ≡ fmtChunk (now (rest .entry)) at (seenOf seen) ⌝ }
 {
     if four(rest, 4) != 16 {
-        return Turn::Ends(Reading::WrongFormat);
+        return Step::Ends(Reading::WrongFormat);
     }
     if rest.len() < 24 {
-        return Turn::Ends(Reading::CutOff);
+        return Step::Ends(Reading::CutOff);
     }
-    match heard {
-        Heard::Nothing => format_values(rest, at),
-        Heard::Sound(_, _) => Turn::Ends(Reading::WrongFormat),
+    match seen {
+        Seen::Nothing => format_values(rest, at),
+        Seen::Sound(_, _) => Step::Ends(Reading::WrongFormat),
     }
 }
 
-fn data_chunk(size: u32, at: usize, heard: Heard) -> Reading
+fn data_chunk(size: u32, at: usize, seen: Seen) -> Reading
     requires { ⌜ at < 2 ^ 63 ⌝ }
-    ensures { λ r. ⌜ readAnswer r ≡ dataChunk size at (seenOf heard) ⌝ }
+    ensures { λ r. ⌜ readAnswer r ≡ dataChunk size at (seenOf seen) ⌝ }
 {
-    match heard {
-        Heard::Nothing => Reading::NoFormat,
-        Heard::Sound(rate, format) => {
-            if size % block_size(format) != 0 {
+    match seen {
+        Seen::Nothing => Reading::NoFormat,
+        Seen::Sound(rate, format) => {
+            if size % bytes_each(format) != 0 {
                 return Reading::PartSample;
             }
             Reading::Accepted {
@@ -90,19 +90,19 @@ fn data_chunk(size: u32, at: usize, heard: Heard) -> Reading
     }
 }
 
-pub(crate) fn chunk(rest: &[u8], at: usize, heard: Heard) -> Turn
+pub(crate) fn chunk(rest: &[u8], at: usize, seen: Seen) -> Step
     requires { ⌜ at < 2 ^ 63 ⌝ }
-    ensures { λ r. ⌜ stepOf r ≡ chunk (now (rest .entry)) at (seenOf heard) ⌝ }
+    ensures { λ r. ⌜ stepOf r ≡ chunk (now (rest .entry)) at (seenOf seen) ⌝ }
 {
     if rest.len() < 8 {
-        return Turn::Ends(Reading::CutOff);
+        return Step::Ends(Reading::CutOff);
     }
     if named(rest, 0, b"fmt ") {
-        return format_chunk(rest, at, heard);
+        return format_chunk(rest, at, seen);
     }
     let size = four(rest, 4);
     if named(rest, 0, b"data") {
-        return Turn::Ends(data_chunk(size, at, heard));
+        return Step::Ends(data_chunk(size, at, seen));
     }
-    Turn::On(next_chunk(at, size), heard)
+    Step::On(next_chunk(at, size), seen)
 }

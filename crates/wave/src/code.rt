@@ -1,12 +1,14 @@
 // A sample's code: the 24 bits of its two's complement, as a number below 2 ^ 24.
-use crate::get::wide;
+use whole::counts::wide;
 ghost use mathlib.Core.Path.{_≡_};
 ghost use Prim.Native.Nat.{_<_, _≤_, _+_, _*_, _^_};
 ghost use mathlib.Core.Bool.{true};
 ghost use lib.ListN.{length};
 ghost use lib.Seq.{sets};
 ghost use Rattle.wave.specs.Bytes.{little};
-ghost use Rattle.wave.specs.Sample.{numberOf, codeOf, inRange};
+ghost use Rattle.answers.specs.Range.{within};
+ghost use Rattle.answers.specs.Unit.{leastSample, mostSample};
+ghost use Rattle.wave.specs.Sample.{numberOf, codeOf};
 
 // The code of three bytes, the lowest first.
 pub(crate) fn code(low: u8, middle: u8, high: u8) -> u32
@@ -24,19 +26,9 @@ pub(crate) fn number(code: u32) -> i32
     if code < 8388608 { n } else { n - 16777216 }
 }
 
-pub(crate) fn in_range(sample: i32) -> bool
-    ensures { λ r. ⌜ r ≡ inRange sample ⌝ }
-{
-    if sample < -8388608 {
-        false
-    } else {
-        sample <= 8388607
-    }
-}
-
 // The code of a number in the range.
 pub(crate) fn code_of(sample: i32) -> u32
-    requires { ⌜ inRange sample ≡ true ⌝ }
+    requires { ⌜ within leastSample mostSample sample ≡ true ⌝ }
     ensures { λ r. ⌜ (r ≡ codeOf sample) × (r < 2 ^ 24) ⌝ }
 {
     if sample < 0 {

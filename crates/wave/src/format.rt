@@ -1,16 +1,26 @@
 // The sample formats that a file may hold, and the right values of its `fmt ` chunk, in one place.
 ghost use mathlib.Core.Path.{_≡_};
 ghost use Prim.Native.Nat.{_<_};
-ghost use Rattle.wave.specs.Values.{bitsOf, blockSize, knownRate, knownBits, right};
+ghost use Rattle.wave.specs.Values.{bitsOf, sizeOf, knownRate, knownBits, right};
 
 pub enum Format {
     Bits16,
     Bits24,
 }
 
+// The bits of one sample.
+pub fn bits(format: Format) -> u32
+    ensures { λ r. ⌜ r ≡ bitsOf format ⌝ }
+{
+    match format {
+        Format::Bits16 => 16,
+        Format::Bits24 => 24,
+    }
+}
+
 // The bytes of one sample.
-pub(crate) fn block_size(format: Format) -> u32
-    ensures { λ r. ⌜ (r ≡ blockSize (bitsOf format)) × (0 < r) ⌝ }
+pub fn bytes_each(format: Format) -> u32
+    ensures { λ r. ⌜ (r ≡ sizeOf format) × (0 < r) × (r < 4) ⌝ }
 {
     match format {
         Format::Bits16 => 2,

@@ -1,14 +1,9 @@
 // Numbers and names read at a place, the lowest byte first.
+use whole::counts::wide;
 ghost use mathlib.Core.Path.{_≡_};
-ghost use Prim.Native.Nat.{_+_, _≤_, _<_};
+ghost use Prim.Native.Nat.{_+_, _≤_};
 ghost use lib.ListN.{length, take, drop};
 ghost use Rattle.wave.specs.Bytes.{field, same};
-
-pub(crate) fn wide(x: u8) -> u32
-    ensures { λ r. ⌜ (r ≡ x) × (r < 256) ⌝ }
-{
-    x as u32
-}
 
 pub(crate) fn two(s: &[u8], place: usize) -> u32
     requires { ⌜ place + 2 ≤ length (now s) ⌝ }

@@ -1,9 +1,10 @@
 // The header reader.
-use crate::chunk::Heard;
-use crate::chunk::Turn;
+use crate::chunk::Seen;
+use crate::chunk::Step;
 use crate::chunk::chunk;
 use crate::format::Format;
 use crate::get::named;
+use answers::unit::FRONT_LENGTH;
 ghost use mathlib.Core.Path.{_≡_};
 ghost use lib.ListN.{length};
 ghost use Rattle.wave.specs.Walk.{nothing, walk, judge, readOf, readAnswer};
@@ -33,15 +34,15 @@ fn walk(front: &[u8]) -> Reading
     ensures { λ r. ⌜ readAnswer r ≡ walk (length (now (front .entry))) (now (front .entry)) 12 nothing ⌝ }
 {
     let mut at: usize = 12;
-    let mut heard = Heard::Nothing;
+    let mut seen = Seen::Nothing;
     while at <= front.len() {
-        match chunk(&front[at..], at, heard) {
-            Turn::Ends(reading) => {
+        match chunk(&front[at..], at, seen) {
+            Step::Ends(reading) => {
                 return reading;
             }
-            Turn::On(next, met) => {
+            Step::On(next, met) => {
                 at = next;
-                heard = met;
+                seen = met;
             }
         }
     }
@@ -66,8 +67,8 @@ fn judge(front: &[u8]) -> Reading
 pub fn read(front: &[u8]) -> Reading
     ensures { λ r. ⌜ readAnswer r ≡ readOf (now (front .entry)) ⌝ }
 {
-    if 4096 < front.len() {
-        return judge(&front[..4096]);
+    if FRONT_LENGTH < front.len() {
+        return judge(&front[..FRONT_LENGTH]);
     }
     judge(front)
 }

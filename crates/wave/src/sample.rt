@@ -1,11 +1,18 @@
 // The sample codec, one sample at a time.
 use crate::code::code;
 use crate::code::code_of;
-use crate::code::in_range;
 use crate::code::number;
 use crate::code::put_code;
+use crate::format::Format;
+use answers::range::within;
+use answers::unit::LEAST_SAMPLE;
+use answers::unit::MOST_SAMPLE;
 ghost use mathlib.Core.Path.{_≡_};
-ghost use Rattle.wave.specs.Sample.{fromBytes, toBytes, sampleAnswer, putAnswer};
+ghost use Prim.Native.Nat.{_+_, _≤_};
+ghost use lib.ListN.{length, take, drop};
+ghost use Rattle.answers.specs.Checks.{Done};
+ghost use Rattle.wave.specs.Sample.{sampleIn, fromBytes, toBytes};
+ghost use Rattle.wave.specs.Values.{sizeOf};
 
 // What `sample_from_bytes` answers.
 pub enum Sample {
@@ -24,29 +31,40 @@ pub enum Put {
     OutOfRange,
 }
 
+// The sample of a format in the bytes at a place.
+pub(crate) fn sample_at(bytes: &[u8], at: usize, format: Format) -> i32
+    requires { ⌜ at + sizeOf format ≤ length (now bytes) ⌝ }
+    ensures { λ r. ⌜ r ≡ sampleIn format (take (sizeOf format) (drop at (now (bytes .entry)))) ⌝ }
+{
+    match format {
+        Format::Bits16 => number(code(0, bytes[at], bytes[at + 1])),
+        Format::Bits24 => number(code(bytes[at], bytes[at + 1], bytes[at + 2])),
+    }
+}
+
 // The sample in two bytes, taken times 256, or in three.
 pub fn sample_from_bytes(bytes: &[u8]) -> Sample
-    ensures { λ r. ⌜ sampleAnswer r ≡ fromBytes (now (bytes .entry)) ⌝ }
+    ensures { λ r. ⌜ r ≡ fromBytes (now (bytes .entry)) ⌝ }
 {
     if bytes.len() == 2 {
-        return Sample::Is(number(code(0, bytes[0], bytes[1])));
+        return Sample::Is(sample_at(bytes, 0, Format::Bits16));
     }
     if bytes.len() == 3 {
-        return Sample::Is(number(code(bytes[0], bytes[1], bytes[2])));
+        return Sample::Is(sample_at(bytes, 0, Format::Bits24));
     }
     Sample::WrongLength
 }
 
 // Writes a sample's three bytes.
 pub fn sample_to_bytes(sample: i32, buffer: &mut [u8]) -> Put
-    ensures { λ r. ⌜ (putAnswer r, now (buffer .exit)) ≡ toBytes sample (now (buffer .entry)) ⌝ }
+    ensures { λ r. ⌜ Done (toBytes sample (now (buffer .entry))) r (now (buffer .exit)) ⌝ }
 {
     if buffer.len() != 3 {
         return Put::WrongLength;
     }
-    if in_range(sample) {
-        put_code(buffer, 0, code_of(sample));
-        return Put::Done(3);
+    if !within(LEAST_SAMPLE, MOST_SAMPLE, sample) {
+        return Put::OutOfRange;
     }
-    Put::OutOfRange
+    put_code(buffer, 0, code_of(sample));
+    Put::Done(3)
 }

@@ -8,7 +8,8 @@ ghost use mathlib.Core.Path.{_≡_};
 ghost use Prim.Native.Nat.{_+_, _≤_};
 ghost use lib.ListN.{length};
 ghost use lib.Seq.{sets};
-ghost use Rattle.wave.specs.Header.{header, fmtContents, writeOf, writeAnswer};
+ghost use Rattle.answers.specs.Checks.{Done};
+ghost use Rattle.wave.specs.Header.{header, fmtContents, writeOf};
 
 // What `write` answers.
 pub enum Written {
@@ -46,22 +47,22 @@ fn put_header(buffer: &mut [u8], rate: u32, size: u32)
     put_chunk(buffer, 36, b"data", size);
 }
 
-// Writes the header of `length` bytes of 24-bit samples at a rate.
-pub fn write(buffer: &mut [u8], rate: u32, length: u32) -> Written
-    ensures { λ r. ⌜ (writeAnswer r, now (buffer .exit)) ≡ writeOf (now (buffer .entry)) rate length ⌝ }
+// Writes the header of `size` bytes of 24-bit samples at a rate.
+pub fn write(buffer: &mut [u8], rate: u32, size: u32) -> Written
+    ensures { λ r. ⌜ Done (writeOf (now (buffer .entry)) rate size) r (now (buffer .exit)) ⌝ }
 {
     if buffer.len() != 44 {
         return Written::WrongBuffer;
     }
-    if known_rate(rate) {
-        if length % 3 != 0 {
-            return Written::WrongLength;
-        }
-        if 4294967259 < length {
-            return Written::WrongLength;
-        }
-        put_header(buffer, rate, length);
-        return Written::Header(44);
+    if !known_rate(rate) {
+        return Written::WrongRate;
     }
-    Written::WrongRate
+    if size % 3 != 0 {
+        return Written::WrongLength;
+    }
+    if 4294967259 < size {
+        return Written::WrongLength;
+    }
+    put_header(buffer, rate, size);
+    Written::Header(44)
 }

@@ -3,7 +3,7 @@
 use mathlib.Core.Path.{sym, ap, _∙_}
 use Rattle.wave.specs.Values.{bitsOf}
 use Rattle.wave.specs.Walk.{dataChunk}
-use Rattle.wave.specs.Code.{seenOf}
+use Rattle.wave.specs.Private.{seenOf}
 use Rattle.wave.proofs.Chunks.{data-none, data-part, data-whole}
 use borrow.Author.Needs.{needs}
 use Rattle.wave.proofs.chunk.data_chunk.Statement.{statement}
@@ -12,22 +12,22 @@ use Rattle.wave.proofs.chunk.data_chunk.Tie as tie
 enum-told : tie.Need-enum-told
 enum-told c = search needs
 
-enum-known-heard : tie.Need-enum-known-heard
-enum-known-heard c = search needs
+enum-known-seen : tie.Need-enum-known-seen
+enum-known-seen c = search needs
 
-block-size-requires : tie.Need-block-size-requires
-block-size-requires c κs = search needs
+bytes-each-requires : tie.Need-bytes-each-requires
+bytes-each-requires c κs = search needs
 
 rem-if1 : tie.Need-rem-if1
 rem-if1 c = search needs
 
 returns : tie.Need-returns
 returns c =
-    let block = c .before .block-size in
-    let heard = c .before .before .before .heard .given in
+    let block = c .before .bytes-each in
+    let seen = c .before .before .before .seen .given in
     let a = c .before .before .before .before .before .args in
-    data-part (a .size) (a .at) (heard .0 .0) (bitsOf (heard .0 .1 .0)) (block .result) (block .ensures .0) (c .if1 .taken)
-    ∙ sym (ap (λ h. dataChunk (a .size) (a .at) (seenOf h)) (heard .1))
+    data-part (a .size) (a .at) (seen .0 .0) (bitsOf (seen .0 .1 .0)) (block .result) (block .ensures .0) (c .if1 .taken)
+    ∙ sym (ap (λ h. dataChunk (a .size) (a .at) (seenOf h)) (seen .1))
 
 add-t10 : tie.Need-add-t10
 add-t10 c = search needs
@@ -39,19 +39,19 @@ returns-2 c =
 
 returns-3 : tie.Need-returns-3
 returns-3 c =
-    let block = c .before .block-size in
-    let heard = c .before .before .before .heard .given in
+    let block = c .before .bytes-each in
+    let seen = c .before .before .before .seen .given in
     let a = c .before .before .before .before .before .args in
-    data-whole (a .size) (a .at) (heard .0 .0) (bitsOf (heard .0 .1 .0)) (block .result) (block .ensures .0) (c .if1 .left)
-    ∙ sym (ap (λ h. dataChunk (a .size) (a .at) (seenOf h)) (heard .1))
+    data-whole (a .size) (a .at) (seen .0 .0) (bitsOf (seen .0 .1 .0)) (block .result) (block .ensures .0) (c .if1 .left)
+    ∙ sym (ap (λ h. dataChunk (a .size) (a .at) (seenOf h)) (seen .1))
 
 pub data-chunk-spec : {M : Type 1} → statement M
 data-chunk-spec =
     tie.close
     (tie.spec
     enum-told
-    enum-known-heard
-    block-size-requires
+    enum-known-seen
+    bytes-each-requires
     rem-if1
     returns
     add-t10

@@ -3,7 +3,7 @@
 use mathlib.Core.Path.{sym, ap, _∙_}
 use Rattle.wave.specs.Values.{bitsOf}
 use Rattle.wave.specs.Walk.{fmtChunk}
-use Rattle.wave.specs.Code.{seenOf, stepOf}
+use Rattle.wave.specs.Private.{seenOf, stepOf}
 use Rattle.wave.proofs.Chunks.{fmt-length, fmt-cut, fmt-first, fmt-second}
 use borrow.Author.Needs.{needs}
 use Rattle.wave.proofs.chunk.format_chunk.Statement.{statement}
@@ -15,13 +15,13 @@ four-requires c κs = search needs
 returns : tie.Need-returns
 returns c =
     let a = c .before .before .before .args in
-    fmt-length (a .rest .now) (a .at) (seenOf (a .heard)) (λ e. c .if1 .taken (c .before .four .ensures ∙ e))
+    fmt-length (a .rest .now) (a .at) (seenOf (a .seen)) (λ e. c .if1 .taken (c .before .four .ensures ∙ e))
 
 returns-2 : tie.Need-returns-2
 returns-2 c =
     let else1 = c .before in
     let a = else1 .before .before .before .args in
-    fmt-cut (a .rest .now) (a .at) (seenOf (a .heard)) (sym (else1 .before .four .ensures) ∙ else1 .if1 .left) (c .if2 .taken)
+    fmt-cut (a .rest .now) (a .at) (seenOf (a .seen)) (sym (else1 .before .four .ensures) ∙ else1 .if1 .left) (c .if2 .taken)
 
 enum-told : tie.Need-enum-told
 enum-told c = search needs

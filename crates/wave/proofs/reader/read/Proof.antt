@@ -3,13 +3,14 @@
 use mathlib.Core.Path.{sym, _∙_}
 use native.Mathlib.Omega.{arith}
 use lib.Seq.{length-take-le}
+use Rattle.answers.specs.Unit.{frontLength}
 use Rattle.wave.proofs.Walks.{read-whole, read-front}
 use borrow.Author.Needs.{needs}
 use Rattle.wave.proofs.reader.read.Statement.{statement}
 use Rattle.wave.proofs.reader.read.Tie as tie
 
 slice-aggregate-judge : tie.Need-slice-aggregate-judge
-slice-aggregate-judge c = sym (length-take-le 4096 (c .before .before .before .args .front .now) (omega arith))
+slice-aggregate-judge c = sym (length-take-le frontLength (c .before .before .before .args .front .now) (omega arith))
 
 judge-requires : tie.Need-judge-requires
 judge-requires c κs = search needs

@@ -1,16 +1,21 @@
--- `block::store_24` meets its contract. The invariant: the bytes of i samples are stored, and `at` is the place of the next. The measure
+-- `samples::store_all` meets its contract. The invariant: the bytes of i samples are stored, and `at` is the place of the next. The measure
 -- is what is left to store. Assumes nothing.
 use mathlib.Core.Path.{ap, _∙_}
 use Prim.Native.Nat.{ℕ, _-_}
 use native.Mathlib.Omega.{arith}
-use lib.ListN.{length}
+use lib.ListN.{length, getD}
+use lib.IntN.{pos}
+use mir.Syntax.{w32}
 use lib.Seq.{sets}
 use mir.Facts.{toZ-ofZ}
 use Rattle.wave.specs.Bytes.{little}
-use Rattle.wave.specs.Sample.{inRange, codeOf}
-use Rattle.wave.proofs.Blocks.{Storing, storing-start, storing-turn, storing-end, all-at}
-use Rattle.wave.proofs.block.store_24.Statement.{statement}
-use Rattle.wave.proofs.block.store_24.Tie as tie
+use Rattle.answers.specs.Range.{within}
+use Rattle.answers.specs.Unit.{leastSample, mostSample}
+use Rattle.answers.proofs.Ranges.{all-at}
+use Rattle.wave.specs.Sample.{codeOf}
+use Rattle.wave.proofs.Storing.{Storing, storing-start, storing-turn, storing-end}
+use Rattle.wave.proofs.samples.store_all.Statement.{statement}
+use Rattle.wave.proofs.samples.store_all.Tie as tie
 
 abbrev Inv-loop : tie.InvT-loop
 Inv-loop samples buffer₀ i₀ at₀ buffer i at = Storing samples buffer₀ buffer i at
@@ -31,8 +36,9 @@ code-of-requires : tie.Need-code-of-requires Inv-loop μ-loop
 code-of-requires c κs =
     let at-loop = c .before .before .before in
     let e = at-loop .before .before in
-    ap inRange (toZ-ofZ (record { sfits = c .code-of-arg .given }))
-    ∙ all-at (e .args .samples .now) (at-loop .loop .i) (e .pre .1) (c .before .before .loop-test .taken)
+    let z = getD (e .args .samples .now) (at-loop .loop .i) (pos 0) in
+    ap (within leastSample mostSample) (toZ-ofZ {w = w32} {z = z} (record { sfits = c .code-of-arg .given }))
+    ∙ all-at leastSample mostSample (e .args .samples .now) (e .pre .1) (at-loop .loop .i) (c .before .before .loop-test .taken)
 
 put-code-requires : tie.Need-put-code-requires Inv-loop μ-loop
 put-code-requires c κs = (omega arith, c .code-of .ensures .1)
@@ -70,8 +76,8 @@ returns c =
     storing-end (e .args .samples .now) (e .args .buffer .now) (e .pre .0) (at-loop .loop .buffer) (at-loop .loop .i) (at-loop .loop .at)
     (at-loop .loop .inv) (c .loop-test .left)
 
-pub store-24-spec : {M : Type 1} → statement M
-store-24-spec =
+pub store-all-spec : {M : Type 1} → statement M
+store-all-spec =
     tie.close
     (tie.spec
     Inv-loop

@@ -1,6 +1,6 @@
 -- A proof by the two answers of a test. Assumes nothing.
 use mathlib.Core.Path.{_≡_, refl}
-use mathlib.Core.Bool.{Bool, true, false, cond, _&&_, false≢true}
+use mathlib.Core.Bool.{Bool, true, false, cond}
 use Prim.Native.Nat.{ℕ, _<_, _≤_}
 use lib.Dec.{ltb}
 use borrow.Author.Tests.{ltb-true, ltb-false}
@@ -18,12 +18,3 @@ by-order a b below above = by-test (ltb a b) (λ t. below (ltb-true a b t)) (λ 
 pub cond-case {ℓ κ} : {A : Type ℓ} (P : A → Type κ) (x y : A) (t : Bool) → (t ≡ true → P x) → (t ≡ false → P y) → P (cond t x y)
 cond-case P x y true f g = f refl
 cond-case P x y false f g = g refl
-
--- both parts of a test that holds hold
-pub and-left : (a b : Bool) → (a && b) ≡ true → a ≡ true
-and-left true b h = refl
-and-left false b h = h
-
-pub and-right : (a b : Bool) → (a && b) ≡ true → b ≡ true
-and-right true b h = h
-and-right false b h = absurd (false≢true h)
