@@ -11,7 +11,6 @@ use lib.Dec.{eqb, leb}
 use lib.ListN.{length, set, length-append}
 use lib.IntN.{ℤ}
 use Rattle.answers.specs.Answer.{Answer, accepted, refused}
-use Rattle.wave.specs.Answer as wave
 use Rattle.eqfile.specs.declared.half.Argument.{Argument}
 use Rattle.eqfile.specs.declared.half.Argument.the-variants as argument
 use Rattle.eqfile.specs.declared.taking.Arguments.{Arguments}
@@ -102,7 +101,7 @@ counted (text ∷ texts) n s e =
     pair-is : (q : Arguments × List ℤ) (a : Arguments) → q .0 ≡ a → q ≡ (a, q .1)
     pair-is q a e = ap (λ (x : Arguments). (x, q .1)) e
 
-other-number : (texts : List (List ℕ)) (gains : List ℤ) (front : List ℕ) → (length texts ≡ bands → ⊥) → startOf (allOf (Taken 0, gains) texts .0) front ≡ wave.refused 30
+other-number : (texts : List (List ℕ)) (gains : List ℤ) (front : List ℕ) → (length texts ≡ bands → ⊥) → startOf (allOf (Taken 0, gains) texts .0) front ≡ refused 30 0
 other-number texts gains front n =
     ⊎-elim
     (λ (r : allOf (Taken 0, gains) texts .0 ≡ Refused). ap (λ (a : Arguments). startOf a front) r ∙ sym (arguments-refused front))
@@ -115,7 +114,7 @@ other-number texts gains front n =
 -- accepted arguments are all taken, and their gains stand in order; refused ones refuse the run with 30, whatever the header is
 abbrev pub Promised : Answer (List ℤ) → Arguments × List ℤ → Type 0
 Promised (accepted gs) so-far = so-far ≡ (Taken bands, gs)
-Promised (refused k p) so-far = (front : List ℕ) → startOf (so-far .0) front ≡ wave.refused 30
+Promised (refused k p) so-far = (front : List ℕ) → startOf (so-far .0) front ≡ refused 30 0
 
 pub arguments-promise : (texts : List (List ℕ)) (gains : List ℤ) → length gains ≡ bands → Promised (argumentsOf texts) (allOf (Taken 0, gains) texts)
 unfolding argumentsOf

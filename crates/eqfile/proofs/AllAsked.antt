@@ -11,7 +11,7 @@ use borrow.Author.Tests.{eq-eqb}
 use lib.ListN.{length, take, drop, replicate, length-append, length-take, length-drop, length-replicate, take-append-drop, drop-of-length-le}
 use lib.Seq.{getD-drop, drop-nil, length-take-le}
 use lib.IntN.{pos}
-use Rattle.wave.specs.Block.{sizeOf}
+use Rattle.wave.specs.Values.{sizeOf}
 use Rattle.wave.specs.declared.format.Format.{Format}
 use Rattle.wave.specs.declared.format.Format.the-variants.{Bits16, Bits24}
 use Rattle.wave.proofs.RoundTrips.{Bytes}

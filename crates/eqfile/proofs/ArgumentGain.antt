@@ -1,25 +1,23 @@
 -- An argument's gain is the gain command's answer. Assumes nothing.
-use mathlib.Core.Path.{_≡_, refl, sym, ap, _∙_, subst}
-use mathlib.Core.Bool.{true}
+use mathlib.Core.Path.{_≡_, sym, ap, _∙_, subst}
 use mathlib.Core.List.{List, [], _∷_}
 use mathlib.Core.Logic.{⊎-elim}
 use Prim.Native.Nat.{ℕ, _≤_, _<_}
 use native.Mathlib.Omega.{arith}
-use lib.IntN.{ℤ, pos, natAbs, _-ℤ_}
+use lib.IntN.{ℤ, pos, _-ℤ_}
 use lib.Ieee.{Float}
 use lib.Signed.{mag}
 use types.Run.{OneOf}
 use denote.Enum.Declared.{tagOf}
-use Rattle.whole.proofs.Signed.{lit, _⊖_, abs-by}
 use Rattle.answers.specs.Unit.{largestGain}
-use Rattle.gain.specs.Answer as gain
 use Rattle.gain.specs.Decibels.{Half}
-use Rattle.gain.specs.Promise.{answerTo}
+use Rattle.gain.specs.Promise.{commandGain}
 use Rattle.gain.specs.Table.{entry}
 use Rattle.gain.specs.declared.Command.the-variants.{Decibels}
 use Rattle.gain.specs.declared.Gained.{Gained}
 use Rattle.gain.specs.declared.Gained.the-variants as gained
 use Rattle.gain.proofs.Gained as declared
+use Rattle.gain.proofs.Every.{place-range}
 use Rattle.gain.proofs.Halves.{accepted-half}
 use Rattle.gain.proofs.Table.{entry-small}
 use Rattle.eqfile.specs.declared.half.Place.{Place}
@@ -28,15 +26,6 @@ use Rattle.eqfile.specs.declared.half.Argument.{Argument}
 use Rattle.eqfile.specs.declared.half.Argument.the-variants.{Gain, Refused}
 use Rattle.eqfile.specs.Argument.{placeOf, gainFor, argumentOf}
 use Rattle.eqfile.proofs.ArgumentText.{Inside, place-inside}
-
--- a place of the table stands for at most 24 half decibels, up or down
-near : (i : ℕ) → i < 49 → natAbs (pos i -ℤ pos 24) ≤ 24
-near i h = abs-by (lit i ⊖ lit 24) 24 (omega arith) (omega arith)
-
--- the command answers the table's entry for every float with the value n/2
-pub command-answers : (x : Float) (n : ℤ) → natAbs n ≤ 24 → Half x n → answerTo (Decibels x) ≡ gain.accepted (pos (entry n))
-unfolding answerTo
-command-answers x n l h = accepted-half x n l h
 
 module _ (s : List ℕ) where
   pub no-argument : place.Not ≡ placeOf s → Refused ≡ argumentOf s
@@ -47,31 +36,25 @@ module _ (s : List ℕ) where
     pub inside : i < 49
     inside = subst Inside (sym e) (place-inside s)
 
-    -- the code's float for a place has the value n/2, so the answer is the entry
+    -- a float that has the value (i - 24)/2: the command answers the table's entry
     module _ (x : Float) (h : Half x (pos i -ℤ pos 24)) where
-      answered : answerTo (Decibels x) ≡ gain.accepted (pos (entry (pos i -ℤ pos 24)))
-      answered = command-answers x (pos i -ℤ pos 24) (near i inside) h
+      answered : commandGain (Decibels x) ≡ gained.Gain (pos (entry (pos i -ℤ pos 24)))
+      answered = accepted-half x (pos i -ℤ pos 24) (place-range i inside) h
 
-      pub argument-gain : (g : ℤ) → gain.accepted g ≡ answerTo (Decibels x) → Gain g ≡ argumentOf s
+      pub argument-gain : (g : ℤ) → gained.Gain g ≡ commandGain (Decibels x) → Gain g ≡ argumentOf s
       unfolding argumentOf
       argument-gain g p =
-          let q : gain.accepted g ≡ gain.accepted (pos (entry (pos i -ℤ pos 24))) = p ∙ answered in
+          let q : gained.Gain g ≡ gained.Gain (pos (entry (pos i -ℤ pos 24))) = p ∙ answered in
           let r : g ≡ pos (entry (pos i -ℤ pos 24)) = cc in
           ap Gain r ∙ ap gainFor e
 
-      never-refused : {A : Type 0} (k : ℕ) → gain.refused k ≡ answerTo (Decibels x) → A
-      never-refused k p =
-          let q : gain.refused k ≡ gain.accepted (pos (entry (pos i -ℤ pos 24))) = p ∙ answered in
-          let z : _≡_ {A = ℕ} 0 1 = cc in
-          absurd (omega arith)
-
       -- the code's other way out is never taken
-      pub command-refuses : (r : Gained) → OneOf (1 ∷ 2 ∷ []) (tagOf declared.the-type r) → gain.answerOf r ≡ answerTo (Decibels x) → Refused ≡ argumentOf s
-      command-refuses (gained.Gain g) t p = absurd (⊎-elim (λ (z : _≡_ {A = ℕ} 0 1). omega arith) (λ (z : _≡_ {A = ℕ} 0 2). omega arith) t)
-      command-refuses gained.NotHalfDecibels t p = never-refused 11 p
-      command-refuses gained.NotFactor t p = never-refused 12 p
+      pub command-refuses : (r : Gained) → OneOf (1 ∷ 2 ∷ []) (tagOf declared.the-type r) → r ≡ commandGain (Decibels x) → Refused ≡ argumentOf s
+      command-refuses r t p =
+          let u : OneOf (1 ∷ 2 ∷ []) 0 = subst (λ (q : Gained). OneOf (1 ∷ 2 ∷ []) (tagOf declared.the-type q)) (p ∙ answered) t in
+          absurd (⊎-elim (λ (z : _≡_ {A = ℕ} 0 1). omega arith) (λ (z : _≡_ {A = ℕ} 0 2). omega arith) u)
 
--- an argument's gain is at most 16,384
+-- an argument's gain is from 0 to 16,384
 pub gain-small : (s : List ℕ) (g : ℤ) → Gain g ≡ argumentOf s → (n : ℕ) × ((g ≡ pos n) × (n ≤ largestGain))
 unfolding argumentOf
 gain-small s g = by (placeOf s) (place-inside s)
@@ -79,7 +62,7 @@ gain-small s g = by (placeOf s) (place-inside s)
     by : (p : Place) → Inside p → Gain g ≡ gainFor p → (n : ℕ) × ((g ≡ pos n) × (n ≤ largestGain))
     by (place.At i) l e =
         let r : g ≡ pos (entry (pos i -ℤ pos 24)) = cc in
-        (entry (pos i -ℤ pos 24), (r, entry-small (pos i -ℤ pos 24) (near i l)))
+        (entry (pos i -ℤ pos 24), (r, entry-small (pos i -ℤ pos 24) (place-range i l)))
     by place.Not l e = let z : _≡_ {A = ℕ} 0 1 = cc in absurd (omega arith)
 
 -- .. so it is a machine number

@@ -10,7 +10,7 @@ use native.Mathlib.Decide.{decLt}
 use borrow.Author.Tests.{eqb-true}
 use lib.ListN.{length, length-append}
 use lib.IntN.{ℤ}
-use Rattle.wave.specs.Block.{sizeOf}
+use Rattle.wave.specs.Values.{sizeOf}
 use Rattle.wave.specs.declared.format.Format.{Format}
 use Rattle.octave.specs.History.{Call, joined}
 use Rattle.eqfile.specs.Data.{samplesFrom}

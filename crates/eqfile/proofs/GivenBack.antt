@@ -9,19 +9,19 @@ use native.Mathlib.Omega.{arith}
 use lib.ListN.{length, getD, take, drop, replicate, length-drop, take-append-drop}
 use lib.Seq.{getD-drop, ext-getD, length-take-le}
 use lib.IntN.{ℤ, pos}
-use Rattle.whole.specs.Limit.{least24, most24}
 use Rattle.whole.proofs.Signed.{var, le-by}
 use Rattle.tree.specs.Prototype.{published}
 use Rattle.tree.specs.Signal.{Signal, signalOf, gainOf}
 use Rattle.tree.specs.Tree.{line, gainSum, output}
-use Rattle.answers.specs.Unit.{unity}
-use Rattle.octave.specs.Range.{allWithin}
+use Rattle.answers.specs.Unit.{leastSample, mostSample, unity}
 use Rattle.octave.specs.Memory.{prepared}
 use Rattle.octave.specs.History.{from}
-use Rattle.octave.proofs.Ranges.{all-at, within-parts}
+use Rattle.answers.proofs.Ranges.{all-at, cons-all}
+use Rattle.octave.proofs.Ranges.{within-parts}
 use Rattle.octave.proofs.WholeHistory.{from-at}
 use Rattle.answers.specs.Answer.{accepted}
-use Rattle.wave.specs.Block.{sizeOf, samplesOf, bytesOf, allInRange}
+use Rattle.wave.specs.Samples.{samplesOf, bytesOf}
+use Rattle.wave.specs.Values.{sizeOf}
 use Rattle.wave.specs.declared.format.Format.{Format}
 use Rattle.wave.specs.declared.format.Format.the-variants.{Bits24}
 use Rattle.wave.proofs.RoundTrips.{Bytes, same-bytes}
@@ -32,14 +32,14 @@ use Rattle.eqfile.specs.Turn.{late, turnOf}
 use Rattle.eqfile.specs.Program.{Piece, ByPlan, handed, programWrites}
 use Rattle.eqfile.proofs.AllAsked.{bytes-take}
 use Rattle.eqfile.proofs.SamplesInPieces.{length-from}
-use Rattle.eqfile.proofs.InRange.{from-within, out-in-range}
+use Rattle.eqfile.proofs.InRange.{allInRange, none-within, from-within, out-in-range}
 use Rattle.eqfile.proofs.Written.{from-long, unity-output, noughts-are-unity, all-unity}
 use Rattle.eqfile.proofs.Program.{program-writes, program-length}
 
 -- ---- samples
 
 -- outputs 1,143 and on of samples in range are the samples
-outputs-back : (xs : List ℤ) → allWithin least24 most24 xs ≡ true →
+outputs-back : (xs : List ℤ) → allInRange xs ≡ true →
     from late (length xs) (output published 8 (λ _. gainOf (replicate 8 (pos unity))) (signalOf xs)) ≡ xs
 outputs-back xs e =
     let f = output published 8 (λ _. gainOf (replicate 8 (pos unity))) (signalOf xs) in
@@ -48,9 +48,9 @@ outputs-back xs e =
     (λ n h.
     let i : n < length xs = omega arith in
     let z = getD xs n (pos 0) in
-    let r = within-parts least24 most24 z (all-at least24 most24 xs e n i) in
+    let r = within-parts leastSample mostSample z (all-at leastSample mostSample xs e n i) in
     from-at late (length xs) f n i ∙ ap f (add-comm late n) ∙
-    unity-output (replicate 8 (pos unity)) (signalOf xs) all-unity n (le-by (var least24) (var z) (r .0)) (le-by (var z) (var most24) (r .1)))
+    unity-output (replicate 8 (pos unity)) (signalOf xs) all-unity n (le-by (var leastSample) (var z) (r .0)) (le-by (var z) (var mostSample) (r .1)))
 
 -- ---- bytes
 
@@ -91,11 +91,11 @@ bytes-handed format samples at read (u ∷ us) h =
 -- ---- the theorems
 
 outputs-in-range : (g : ℕ → ℕ → ℤ) (x : Signal) (n k : ℕ) → allInRange (from n k (output published 8 g x)) ≡ true
-unfolding from allInRange output
-outputs-in-range g x n zero = refl
-outputs-in-range g x n (suc k) = rw (out-in-range (gainSum published 8 g (line published 8 x) n)) (outputs-in-range g x (n + 1) k)
+unfolding from output
+outputs-in-range g x n zero = none-within leastSample mostSample
+outputs-in-range g x n (suc k) = cons-all leastSample mostSample (output published 8 g x n) (from (n + 1) k (output published 8 g x)) (out-in-range (gainSum published 8 g (line published 8 x) n)) (outputs-in-range g x (n + 1) k)
 
--- 01: "what we write, we read back the same"; the header before it is read back whatever follows, `header-read-back`
+-- what is written is read back the same; the header before it is read back whatever follows, `header-read-back`
 pub outputs-read-back : (texts : List (List ℕ)) (gains : List ℤ) → argumentsOf texts ≡ accepted gains → (format : Format) (samples : ℕ) (us : List Piece) →
     ByPlan format samples 0 0 us →
     samplesFrom samples Bits24 (programWrites gains format samples 0 0 (prepared 8) us) ≡

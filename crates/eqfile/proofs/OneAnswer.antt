@@ -1,11 +1,11 @@
--- One answer: two results that meet a call's promise are equal, and so is what they leave in the lent places. The other calls promise
--- their result by an equation. Assumes nothing.
-use mathlib.Core.Path.{_≡_, refl, sym, ap, _∙_}
+-- One answer: two results that meet `begin`'s promise are equal. The other calls promise their result by an equation. Assumes nothing.
+use mathlib.Core.Path.{_≡_, refl, ap}
 use mathlib.Core.Bool.{cond}
 use mathlib.Core.List.{List}
 use Prim.Native.Nat.{ℕ}
 use lib.Dec.{eqb}
-use Rattle.wave.specs.Answer.{Answer, accepted, refused}
+use Rattle.answers.specs.Answer.{Answer, accepted, refused}
+use Rattle.answers.proofs.Laws.{one-case}
 use Rattle.wave.specs.declared.format.Format.the-variants.{Bits16, Bits24}
 use Rattle.eqfile.specs.declared.taking.Arguments.{Arguments}
 use Rattle.eqfile.specs.declared.order.Refusal.{Refusal}
@@ -14,11 +14,7 @@ use Rattle.eqfile.specs.declared.order.Start.{Start}
 use Rattle.eqfile.specs.declared.order.Start.the-variants as start
 use Rattle.eqfile.specs.Start.{Plan, numberOf, startOf, startAnswer}
 
--- a map with a way back takes no two things to one
-one : {A B : Type 0} (f : A → B) (back : B → A) → ((a : A) → back (f a) ≡ a) → (a b : A) (x : B) → f a ≡ x → f b ≡ x → a ≡ b
-one f back way a b x p q = sym (way a) ∙ ap back (p ∙ sym q) ∙ way b
-
--- ---- the ways back
+-- ---- the way back
 
 refusalBack : ℕ → Refusal
 refusalBack n =
@@ -27,7 +23,7 @@ refusalBack n =
 
 startBack : Answer Plan → Start
 startBack (accepted p) = start.Run (p .rate) (cond (eqb (p .bits) 16) Bits16 Bits24) (p .samples) (p .start)
-startBack (refused n) = start.Refused (refusalBack n)
+startBack (refused n p) = start.Refused (refusalBack n)
 
 refusal-way : (r : Refusal) → refusalBack (numberOf r) ≡ r
 unfolding refusalBack
@@ -48,4 +44,4 @@ start-way (start.Refused r) = ap start.Refused (refusal-way r)
 -- ---- one answer
 
 pub one-start : (so-far : Arguments) (front : List ℕ) (r q : Start) → startAnswer r ≡ startOf so-far front → startAnswer q ≡ startOf so-far front → r ≡ q
-one-start so-far front r q = one startAnswer startBack start-way r q (startOf so-far front)
+one-start so-far front r q = one-case startAnswer startBack start-way

@@ -12,11 +12,14 @@ use Rattle.tree.specs.Signal.{signalOf, gainOf}
 use Rattle.tree.specs.Tree.{output}
 use Rattle.octave.specs.Memory.{prepared}
 use Rattle.octave.specs.Block.{blockOf}
+use Rattle.octave.specs.Answer.{blockAnswer}
 use Rattle.octave.specs.History.{played, AllAccepted, from}
+use Rattle.octave.proofs.WholeHistory.{played-accepted}
 use Rattle.answers.specs.Answer.{accepted}
-use Rattle.wave.specs.Block.{sizeOf, bytesOf}
+use Rattle.wave.specs.Samples.{bytesOf}
+use Rattle.wave.specs.Values.{sizeOf}
 use Rattle.wave.specs.declared.format.Format.{Format}
-use Rattle.wave.proofs.Blocks.{length-bytes, bytes-append}
+use Rattle.wave.proofs.Storing.{length-bytes, bytes-append}
 use Rattle.eqfile.specs.Arguments.{argumentsOf}
 use Rattle.eqfile.specs.Data.{samplesFrom}
 use Rattle.eqfile.specs.Turn.{late, turnOf}
@@ -24,7 +27,7 @@ use Rattle.eqfile.specs.Equalise.{equaliseOf}
 use Rattle.eqfile.specs.Program.{Piece, Follows, ByPlan, handed, programWrites}
 use Rattle.eqfile.proofs.Written.{SameGains, from-long, written-are}
 use Rattle.eqfile.proofs.BlockCalls.{calls, calls-join}
-use Rattle.eqfile.proofs.NeverRefused.{Ready, prepared-ready, Done, Allowed, block-done, stored-all}
+use Rattle.eqfile.proofs.NeverRefused.{Ready, prepared-ready, BlockDone, Allowed, block-done, stored-all}
 use Rattle.eqfile.proofs.SamplesInPieces.{length-from}
 use Rattle.eqfile.proofs.InRange.{from-within}
 use Rattle.eqfile.proofs.AllowedGains.{arguments-allowed}
@@ -44,9 +47,13 @@ drop-append n k r xs ys e f = by (decLt (length xs) n)
         let none : 0 ≡ r = omega arith in
         drop-append-le n xs ys (omega arith) ∙ ap₂ (λ (i j : ℕ). drop i xs ++ drop j ys) here none
 
+none-played : (m : List ℤ) → played m [] .output ≡ []
+unfolding played
+none-played m = refl
+
 module _ (gains : List ℤ) (allowed : Allowed gains) (format : Format) (samples : ℕ) where
   turn-done : (at read : ℕ) (m : List ℤ) (u : Piece) → Ready m → Follows (turnOf (sizeOf format) samples at read) u →
-      Done (samplesFrom (length (u .input)) format (u .read)) (blockOf m gains (samplesFrom (length (u .input)) format (u .read)) (u .output))
+      BlockDone (samplesFrom (length (u .input)) format (u .read)) (blockOf m gains (samplesFrom (length (u .input)) format (u .read)) (u .output))
   unfolding turnOf
   turn-done at read m u r f =
       let input = samplesFrom (length (u .input)) format (u .read) in
@@ -60,23 +67,26 @@ module _ (gains : List ℤ) (allowed : Allowed gains) (format : Format) (samples
   all-accepted at read m (u ∷ us) r h =
       let t = turnOf (sizeOf format) samples at read in
       let d = turn-done at read m u r (h .0) in
-      (d .accepts, all-accepted (at + t .fed) (read + length (u .read)) (blockOf m gains (samplesFrom (length (u .input)) format (u .read)) (u .output) .memory) us (d .ready) (h .1))
+      (ap blockAnswer (d .accepts), all-accepted (at + t .fed) (read + length (u .read)) (blockOf m gains (samplesFrom (length (u .input)) format (u .read)) (u .output) .lent .0) us (d .ready) (h .1))
 
   all-written : (at read : ℕ) (m : List ℤ) (us : List Piece) → Ready m → ByPlan format samples at read us →
       programWrites gains format samples at read m us ≡ bytesOf (drop (late - at) (played m (calls gains format us) .output))
-  unfolding ByPlan calls played programWrites equaliseOf turnOf bytesOf
-  all-written at read m [] r h = sym (ap bytesOf (drop-nil (late - at)))
+  unfolding ByPlan calls programWrites equaliseOf turnOf bytesOf
+  all-written at read m [] r h = sym (ap bytesOf (ap (drop (late - at)) (none-played m) ∙ drop-nil (late - at)))
   all-written at read m (u ∷ us) r h =
       let t = turnOf (sizeOf format) samples at read in
       let input = samplesFrom (length (u .input)) format (u .read) in
       let b = blockOf m gains input (u .output) in
       let d = turn-done at read m u r (h .0) in
-      let rest = played (b .memory) (calls gains format us) .output in
-      let long : length (b .output) ≡ t .fed = d .long ∙ length-from (length (u .input)) format (u .read) ∙ h .0 .input-long in
-      ap₂ _++_ (stored-all (b .output) (t .skipped) (u .stored) (omega arith) (omega (arith, h .0 .stored-long)) (d .in-range))
-      (all-written (at + t .fed) (read + length (u .read)) (b .memory) us (d .ready) (h .1)) ∙
-      sym (bytes-append (drop (t .skipped) (b .output)) (drop (late - (at + t .fed)) rest)) ∙
-      ap bytesOf (sym (drop-append (late - at) (t .skipped) (late - (at + t .fed)) (b .output) rest (omega arith) (omega arith)))
+      let rest = played (b .lent .0) (calls gains format us) .output in
+      let long : length (b .lent .1) ≡ t .fed = d .long ∙ length-from (length (u .input)) format (u .read) ∙ h .0 .input-long in
+      ap₂ _++_ (stored-all (b .lent .1) (t .skipped) (u .stored) (omega arith) (omega (arith, h .0 .stored-long)) (d .in-range))
+      (all-written (at + t .fed) (read + length (u .read)) (b .lent .0) us (d .ready) (h .1)) ∙
+      sym (bytes-append (drop (t .skipped) (b .lent .1)) (drop (late - (at + t .fed)) rest)) ∙
+      ap bytesOf
+      (sym
+      (ap (drop (late - at)) (played-accepted m (record { gains = gains; input = input; before = u .output }) (calls gains format us) (ap blockAnswer (d .accepts))) ∙
+      drop-append (late - at) (t .skipped) (late - (at + t .fed)) (b .lent .1) rest (omega arith) (omega arith)))
 
 same-gains : (gains : List ℤ) (format : Format) (us : List Piece) → SameGains gains (calls gains format us)
 unfolding SameGains calls

@@ -6,8 +6,9 @@ use mathlib.Core.List.{List}
 use Prim.Native.Nat.{ℕ, _*_, _/_, _≤_, _<_}
 use native.Mathlib.Omega.{arith}
 use borrow.Author.Tests.{lt-ltb, le-ltb, ltb-false, eq-eqb, ne-eqb}
-use Rattle.wave.specs.Answer.{Answer, accepted, refused}
-use Rattle.wave.specs.Block.{sizeOf}
+use Rattle.answers.specs.Answer.{Answer, accepted, refused}
+use Rattle.answers.specs.Unit.{largestData}
+use Rattle.wave.specs.Values.{sizeOf}
 use Rattle.wave.specs.Values.{bitsOf, blockSize}
 use Rattle.wave.specs.Walk.{Found, readOf, readAnswer}
 use Rattle.wave.specs.declared.format.Format.{Format}
@@ -17,25 +18,25 @@ use Rattle.eqfile.specs.declared.taking.Arguments.the-variants as argume
 use Rattle.eqfile.specs.Arguments.{bands}
 use Rattle.eqfile.specs.Start.{Plan, planFor, planOf, startOf}
 
-pub reader-refuses : (k : ℕ) → refused k ≡ planOf (refused k)
+pub reader-refuses : (k : ℕ) → refused k 0 ≡ planOf (refused k 0)
 unfolding planOf
 reader-refuses k = refl
 
 module _ (rate : ℕ) (format : Format) (size start block : ℕ) (is : block ≡ sizeOf format) where
-  pub too-long : 4294967259 < 3 * (size / block) → refused 26 ≡ planOf (readAnswer (Accepted rate format size start))
+  pub too-long : largestData < 3 * (size / block) → refused 26 0 ≡ planOf (readAnswer (Accepted rate format size start))
   unfolding planOf
-  too-long h = rw (lt-ltb 4294967259 (3 * (size / sizeOf format)) (rw is at h))
+  too-long h = rw (lt-ltb largestData (3 * (size / sizeOf format)) (rw is at h))
 
-  pub to-be-written : 3 * (size / block) ≤ 4294967259 →
+  pub to-be-written : 3 * (size / block) ≤ largestData →
       accepted (record { rate = rate; bits = bitsOf format; samples = size / block; start = start }) ≡ planOf (readAnswer (Accepted rate format size start))
   unfolding planOf
-  to-be-written h = rw (is, le-ltb 4294967259 (3 * (size / sizeOf format)) (rw is at h))
+  to-be-written h = rw (is, le-ltb largestData (3 * (size / sizeOf format)) (rw is at h))
 
-pub arguments-refused : (front : List ℕ) → refused 30 ≡ startOf arguments.Refused front
+pub arguments-refused : (front : List ℕ) → refused 30 0 ≡ startOf arguments.Refused front
 unfolding startOf
 arguments-refused front = refl
 
-pub not-eight : (n : ℕ) (front : List ℕ) → (n ≡ bands → ⊥) → refused 30 ≡ startOf (arguments.Taken n) front
+pub not-eight : (n : ℕ) (front : List ℕ) → (n ≡ bands → ⊥) → refused 30 0 ≡ startOf (arguments.Taken n) front
 unfolding startOf
 not-eight n front h = rw (ne-eqb n bands h)
 
@@ -43,29 +44,29 @@ pub eight : (n : ℕ) (front : List ℕ) (a : Answer Plan) → n ≡ bands → a
 unfolding startOf
 eight n front a h e = rw (eq-eqb n bands h, e)
 
--- a run that starts has samples that can be written
+-- a run that starts has samples whose bytes a header can state
 abbrev pub Writable : Answer Plan → Type 0
-Writable (accepted p) = p .samples ≤ 1431655753
-Writable (refused k) = Unit {0}
+Writable (accepted p) = 3 * p .samples ≤ largestData
+Writable (refused k p) = Unit {0}
 
 writable-plan : (f : Found) → Writable (planFor f)
-writable-plan f = by (ltb 4294967259 (3 * (f .size / blockSize (f .bits)))) refl
+writable-plan f = by (ltb largestData (3 * (f .size / blockSize (f .bits)))) refl
   where
-    by : (b : Bool) → ltb 4294967259 (3 * (f .size / blockSize (f .bits))) ≡ b →
-        Writable (cond b (refused 26) (accepted (record { rate = f .rate; bits = f .bits; samples = f .size / blockSize (f .bits); start = f .start })))
+    by : (b : Bool) → ltb largestData (3 * (f .size / blockSize (f .bits))) ≡ b →
+        Writable (cond b (refused 26 0) (accepted (record { rate = f .rate; bits = f .bits; samples = f .size / blockSize (f .bits); start = f .start })))
     by true e = tt
-    by false e = let h = ltb-false 4294967259 (3 * (f .size / blockSize (f .bits))) e in omega arith
+    by false e = let h = ltb-false largestData (3 * (f .size / blockSize (f .bits))) e in omega arith
 
 writable-read : (a : Answer Found) → Writable (planOf a)
 unfolding planOf
 writable-read (accepted f) = writable-plan f
-writable-read (refused k) = tt
+writable-read (refused k p) = tt
 
 pub writable : (a : Arguments) (front : List ℕ) → Writable (startOf a front)
 unfolding startOf
 writable arguments.Refused front = tt
 writable (arguments.Taken n) front = by (eqb n bands)
   where
-    by : (b : Bool) → Writable (cond b (planOf (readOf front)) (refused 30))
+    by : (b : Bool) → Writable (cond b (planOf (readOf front)) (refused 30 0))
     by true = writable-read (readOf front)
     by false = tt

@@ -11,7 +11,7 @@ use lib.Seq.{getD-drop, ext-getD}
 use lib.IntN.{ℤ, pos, _*ℤ_}
 use lib.Signed.{_≤ℤ_}
 use borrow.Author.Tests.{le-leb}
-use Rattle.whole.specs.Limit.{limit, least24, most24}
+use Rattle.whole.specs.Limit.{limit}
 use Rattle.whole.specs.Nearest.{nearest}
 use Rattle.whole.proofs.Nearest.{nearest-exact}
 use Rattle.whole.proofs.Limit.{limit-id}
@@ -22,7 +22,7 @@ use Rattle.tree.proofs.EqualGains.{equal-gains}
 use Rattle.octave.specs.Memory.{prepared}
 use Rattle.octave.specs.History.{Call, played, AllAccepted, joined, carried, from}
 use Rattle.octave.proofs.WholeHistory.{from-at, whole-history, output-ext, output-at, carried-here, carried-later}
-use Rattle.answers.specs.Unit.{unity}
+use Rattle.answers.specs.Unit.{leastSample, mostSample, unity}
 use Rattle.gain.specs.Table.{entry, gains}
 use Rattle.answers.specs.Answer.{accepted}
 use Rattle.eqfile.specs.Argument.{placeOf, argumentOf}
@@ -64,11 +64,11 @@ from-long n (suc k) f = ap suc (from-long (n + 1) k f)
 
 -- gains of 4,096: output n + 1,143 is sample n
 pub unity-output : (gains : List ℤ) (x : Signal) → ((m : ℕ) → 1 ≤ m → m ≤ 8 → gainOf gains m ≡ pos unity) → (n : ℕ) →
-    least24 ≤ℤ x n → x n ≤ℤ most24 → output published 8 (λ _. gainOf gains) x (n + late) ≡ x n
+    leastSample ≤ℤ x n → x n ≤ℤ mostSample → output published 8 (λ _. gainOf gains) x (n + late) ≡ x n
 unity-output gains x each n lo hi =
     equal-gains published 8 (pos unity) (λ _. gainOf gains) x (n + late) (omega arith) each ∙
-    ap (λ (z : ℤ). limit least24 most24 (nearest unity (pos unity *ℤ z))) delayed ∙
-    ap (limit least24 most24) (nearest-exact unity (omega arith) (x n)) ∙ limit-id least24 most24 (x n) lo hi
+    ap (λ (z : ℤ). limit leastSample mostSample (nearest unity (pos unity *ℤ z))) delayed ∙
+    ap (limit leastSample mostSample) (nearest-exact unity (omega arith) (x n)) ∙ limit-id leastSample mostSample (x n) lo hi
   where
     delayed : back x (n + late) late ≡ x n
     delayed = rw (le-leb late (n + late) (omega arith)) (ap x (omega arith))
@@ -101,7 +101,7 @@ module _ (gains xs : List ℤ) (cs : List Call) (all : AllAccepted (prepared 8) 
 
   -- gains of 4,096 give every sample back
   pub unity-gives-back : ((m : ℕ) → 1 ≤ m → m ≤ 8 → gainOf gains m ≡ pos unity) → (n : ℕ) → n < length xs →
-      least24 ≤ℤ signalOf xs n → signalOf xs n ≤ℤ most24 → getD (drop late (played (prepared 8) cs .output)) n (pos 0) ≡ getD xs n (pos 0)
+      leastSample ≤ℤ signalOf xs n → signalOf xs n ≤ℤ mostSample → getD (drop late (played (prepared 8) cs .output)) n (pos 0) ≡ getD xs n (pos 0)
   unity-gives-back each n h lo hi = written-is n h ∙ unity-output gains (signalOf xs) each n lo hi
 
 -- ---- arguments all 0
@@ -116,5 +116,5 @@ all-unity m l h = getD-replicate 8 (m - 1) (pos unity) (pos 0) (omega arith)
 
 -- .. and give every sample in range back
 pub noughts-give-back : (xs : List ℤ) (cs : List Call) → AllAccepted (prepared 8) cs → SameGains (replicate 8 (pos unity)) cs → joined cs ≡ followed xs → (n : ℕ) → n < length xs →
-    least24 ≤ℤ signalOf xs n → signalOf xs n ≤ℤ most24 → getD (drop late (played (prepared 8) cs .output)) n (pos 0) ≡ getD xs n (pos 0)
+    leastSample ≤ℤ signalOf xs n → signalOf xs n ≤ℤ mostSample → getD (drop late (played (prepared 8) cs .output)) n (pos 0) ≡ getD xs n (pos 0)
 noughts-give-back xs cs all same fed = unity-gives-back (replicate 8 (pos unity)) xs cs all same fed all-unity

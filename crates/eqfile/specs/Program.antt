@@ -4,7 +4,7 @@ use mathlib.Core.List.{List, [], _∷_, _++_}
 use Prim.Native.Nat.{ℕ, _+_, _≤_, _<_}
 use lib.ListN.{length, getD, take}
 use lib.IntN.{ℤ}
-use Rattle.wave.specs.Block.{sizeOf}
+use Rattle.wave.specs.Values.{sizeOf}
 use Rattle.wave.specs.declared.format.Format.{Format}
 use Rattle.eqfile.specs.declared.plan.Turn.{Turn}
 use Rattle.eqfile.specs.Turn.{fedInAll, turnOf}

@@ -6,7 +6,6 @@ mod digits;
 mod half;
 mod order;
 mod plan;
-mod small;
 mod taking;
 
 pub use block::equalise;

@@ -1,9 +1,10 @@
 // How a run starts: the checks in their order.
-use crate::small::size;
 use crate::taking::Arguments;
 use crate::taking::BANDS;
+use answers::unit::LARGEST_DATA;
 use wave::Format;
 use wave::Reading;
+use wave::bytes_each;
 ghost use mathlib.Core.Path.{_≡_};
 ghost use Rattle.wave.specs.Walk.{readAnswer};
 ghost use Rattle.eqfile.specs.Start.{numberOf, planOf, startOf, startAnswer};
@@ -47,8 +48,8 @@ pub fn number(refusal: Refusal) -> u64
     }
 }
 
-// The most samples whose three bytes each stay within 4,294,967,259.
-const MOST: u32 = 1431655753;
+// The most samples whose three bytes each a header can state.
+const MOST: u32 = LARGEST_DATA / 3;
 
 // An accepted header, if its samples can be written.
 fn plan(reading: Reading) -> Start
@@ -61,7 +62,7 @@ fn plan(reading: Reading) -> Start
             length,
             start,
         } => {
-            let samples = length / size(format);
+            let samples = length / bytes_each(format);
             if MOST < samples {
                 return Start::Refused(Refusal::TooLong);
             }

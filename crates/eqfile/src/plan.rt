@@ -1,11 +1,11 @@
 // The plan of a run: the samples of the file and as many zeros after them as the delay go through the equaliser in full blocks.
-use crate::small::least;
-use crate::small::left;
-use crate::small::size;
 use answers::unit::BLOCK_LIMIT;
 use wave::Format;
+use wave::bytes_each;
+use whole::counts::least;
+use whole::counts::left;
 ghost use mathlib.Core.Path.{_≡_};
-ghost use Rattle.wave.specs.Block.{sizeOf};
+ghost use Rattle.wave.specs.Values.{sizeOf};
 ghost use Rattle.eqfile.specs.Turn.{fedInAll, allRead, wantedOf, turnOf, shortOf};
 
 // A turn of the run, one block: how many samples are fed, how many bytes are to be read for them, how many outputs are dropped, and how many bytes the
@@ -31,7 +31,7 @@ pub fn fed_in_all(samples: u32) -> usize
 fn all_read(format: Format, samples: u32, at: usize, read: usize) -> bool
     ensures { λ r. ⌜ r ≡ allRead (sizeOf format) samples at read ⌝ }
 {
-    read == size(format) as usize * least(at, samples as usize)
+    read == bytes_each(format) as usize * least(at, samples as usize)
 }
 
 // The bytes to read for the block at `at`: none once the data has ended.
@@ -41,7 +41,7 @@ fn wanted(format: Format, samples: u32, at: usize, read: usize, fed: usize) -> u
     if !all_read(format, samples, at, read) {
         return 0;
     }
-    size(format) as usize * least(fed, left(samples as usize, at))
+    bytes_each(format) as usize * least(fed, left(samples as usize, at))
 }
 
 // The turn after `at` samples were fed and `read` bytes of data were read.
@@ -62,5 +62,5 @@ pub fn next_turn(format: Format, samples: u32, at: usize, read: usize) -> Turn
 pub fn short(format: Format, samples: u32, read: usize) -> usize
     ensures { λ r. ⌜ r ≡ shortOf (sizeOf format) samples read ⌝ }
 {
-    left(size(format) as usize * samples as usize, read)
+    left(bytes_each(format) as usize * samples as usize, read)
 }

@@ -1,11 +1,7 @@
 -- `block::equalise` meets its contract: each call's promise in turn. Assumes nothing.
-use mathlib.Core.Path.{ap, subst}
-use Prim.Native.Nat.{ℕ}
+use mathlib.Core.Path.{ap}
 use denote.Ref.{now}
-use Rattle.wave.specs.Block.{storedAnswer}
-use Rattle.octave.specs.Answer.{blockAnswer}
-use Rattle.answers.specs.Checks.{Done}
-use Rattle.eqfile.specs.Equalise.{Lent, countOf, equaliseOf}
+use Rattle.eqfile.specs.Equalise.{countOf}
 use Rattle.eqfile.proofs.OneBlock.{nothing-stored, outputs-stored, none-stored}
 use borrow.Author.Needs.{needs}
 use Rattle.eqfile.proofs.block.equalise.Statement.{statement}
@@ -17,7 +13,7 @@ returns c =
     let samples = block .before .before .before .before .before in
     let a = samples .before .before .before .before .args in
     nothing-stored (now (a .memory)) (now (a .gains)) (a .format) (now (a .bytes)) (now (a .input)) (now (a .output)) (a .skipped) (now (a .stored))
-    (samples .samples-from .last .1 .1 .0) (block .block .last .0) (block .block .last .1 .1 .1 .0) (blockAnswer (block .block .result)) (samples .samples-from .ensures) (block .block .ensures) (c .if1 .taken)
+    (samples .samples-from .last .1 .1 .0) (block .block .last .0) (block .block .last .1 .1 .1 .0) (block .block .result) (samples .samples-from .ensures) (block .block .ensures) (c .if1 .taken)
 
 returns-2 : tie.Need-returns-2
 returns-2 c =
@@ -25,13 +21,10 @@ returns-2 c =
     let block = store .before .before .before .before .before .before .before in
     let samples = block .before .before .before .before .before in
     let a = samples .before .before .before .before .args in
-    subst
-    (λ (n : ℕ). Done (equaliseOf (now (a .memory)) (now (a .gains)) (a .format) (now (a .bytes)) (now (a .input)) (now (a .output)) (a .skipped) (now (a .stored))) n
-    (record { memory = block .block .last .0; input = samples .samples-from .last .1 .1 .0; output = block .block .last .1 .1 .1 .0; stored = store .samples-to-bytes .last .1 .0 }))
+    outputs-stored (now (a .memory)) (now (a .gains)) (a .format) (now (a .bytes)) (now (a .input)) (now (a .output)) (a .skipped) (now (a .stored))
+    (samples .samples-from .last .1 .1 .0) (block .block .last .0) (block .block .last .1 .1 .1 .0) (block .block .result) (samples .samples-from .ensures) (block .block .ensures)
+    (store .samples-to-bytes .result) _ (store .samples-to-bytes .last .1 .0) (store .before .before .before .before .if1 .left) (store .samples-to-bytes .ensures)
     (none-stored (store .samples-to-bytes .result) (c .match .keys2))
-    (outputs-stored (now (a .memory)) (now (a .gains)) (a .format) (now (a .bytes)) (now (a .input)) (now (a .output)) (a .skipped) (now (a .stored))
-    (samples .samples-from .last .1 .1 .0) (block .block .last .0) (block .block .last .1 .1 .1 .0) (blockAnswer (block .block .result)) (samples .samples-from .ensures) (block .block .ensures)
-    (storedAnswer (store .samples-to-bytes .result)) (store .samples-to-bytes .last .1 .0) (store .before .before .before .before .if1 .left) (store .samples-to-bytes .ensures))
 
 returns-3 : tie.Need-returns-3
 returns-3 c =
@@ -39,13 +32,10 @@ returns-3 c =
     let block = store .before .before .before .before .before .before .before in
     let samples = block .before .before .before .before .before in
     let a = samples .before .before .before .before .args in
-    subst
-    (λ (n : ℕ). Done (equaliseOf (now (a .memory)) (now (a .gains)) (a .format) (now (a .bytes)) (now (a .input)) (now (a .output)) (a .skipped) (now (a .stored))) n
-    (record { memory = block .block .last .0; input = samples .samples-from .last .1 .1 .0; output = block .block .last .1 .1 .1 .0; stored = store .samples-to-bytes .last .1 .0 }))
-    (ap (λ x. countOf (storedAnswer x)) (c .before .n .given .1))
-    (outputs-stored (now (a .memory)) (now (a .gains)) (a .format) (now (a .bytes)) (now (a .input)) (now (a .output)) (a .skipped) (now (a .stored))
-    (samples .samples-from .last .1 .1 .0) (block .block .last .0) (block .block .last .1 .1 .1 .0) (blockAnswer (block .block .result)) (samples .samples-from .ensures) (block .block .ensures)
-    (storedAnswer (store .samples-to-bytes .result)) (store .samples-to-bytes .last .1 .0) (store .before .before .before .before .if1 .left) (store .samples-to-bytes .ensures))
+    outputs-stored (now (a .memory)) (now (a .gains)) (a .format) (now (a .bytes)) (now (a .input)) (now (a .output)) (a .skipped) (now (a .stored))
+    (samples .samples-from .last .1 .1 .0) (block .block .last .0) (block .block .last .1 .1 .1 .0) (block .block .result) (samples .samples-from .ensures) (block .block .ensures)
+    (store .samples-to-bytes .result) _ (store .samples-to-bytes .last .1 .0) (store .before .before .before .before .if1 .left) (store .samples-to-bytes .ensures)
+    (ap countOf (c .before .n .given .1))
 
 pub equalise-spec : {M : Type 1} → statement M
 equalise-spec =

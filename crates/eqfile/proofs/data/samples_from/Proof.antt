@@ -3,7 +3,6 @@ use mathlib.Core.Path.{sym}
 use native.Mathlib.Omega.{arith}
 use denote.Ref.{now}
 use lib.Seq.{length-take-le}
-use Rattle.wave.specs.Block.{takenAnswer}
 use Rattle.eqfile.proofs.WholeSamples.{end-within, part-fits, taken, joined}
 use borrow.Author.Needs.{needs}
 use Rattle.eqfile.proofs.data.samples_from.Statement.{statement}
@@ -13,21 +12,21 @@ mul-end : tie.Need-mul-end
 mul-end c =
     let size = c .before in
     let a = size .before .before .args in
-    omega (arith, end-within (a .format) (now (a .bytes)) (now (a .samples)) (size .size .result) (c .least .result) (size .size .ensures .0) (c .least .ensures))
+    omega (arith, end-within (a .format) (now (a .bytes)) (now (a .samples)) (size .bytes-each .result) (c .least .result) (size .bytes-each .ensures .0) (c .least .ensures))
 
 slice-aggregate-bytes-to-samples : tie.Need-slice-aggregate-bytes-to-samples
 slice-aggregate-bytes-to-samples c =
     let least = c .before in
     let size = least .before in
     let a = size .before .before .args in
-    sym (length-take-le _ (now (a .bytes)) (end-within (a .format) (now (a .bytes)) (now (a .samples)) (size .size .result) (least .least .result) (size .size .ensures .0) (least .least .ensures)))
+    sym (length-take-le _ (now (a .bytes)) (end-within (a .format) (now (a .bytes)) (now (a .samples)) (size .bytes-each .result) (least .least .result) (size .bytes-each .ensures .0) (least .least .ensures)))
 
 slice-aggregate-bytes-to-samples-2 : tie.Need-slice-aggregate-bytes-to-samples-2
 slice-aggregate-bytes-to-samples-2 c =
     let least = c .before .before in
     let size = least .before in
     let a = size .before .before .args in
-    sym (length-take-le _ (now (a .samples)) (part-fits (a .format) (now (a .bytes)) (now (a .samples)) (size .size .result) (least .least .result) (size .size .ensures .0) (least .least .ensures)))
+    sym (length-take-le _ (now (a .samples)) (part-fits (a .format) (now (a .bytes)) (now (a .samples)) (size .bytes-each .result) (least .least .result) (size .bytes-each .ensures .0) (least .least .ensures)))
 
 returns : tie.Need-returns
 returns c =
@@ -36,10 +35,10 @@ returns c =
     let least = call .before .before .before in
     let size = least .before in
     let a = size .before .before .args in
-    joined (a .format) (now (a .bytes)) (now (a .samples)) (size .size .result) (least .least .result) (size .size .ensures .0) (least .least .ensures)
+    joined (a .format) (now (a .bytes)) (now (a .samples)) (size .bytes-each .result) (least .least .result) (size .bytes-each .ensures .0) (least .least .ensures)
     (call .bytes-to-samples .last .1 .1 .0) (clear .clear .last .0)
-    (taken (a .format) (now (a .bytes)) (now (a .samples)) (size .size .result) (least .least .result) (size .size .ensures .0) (least .least .ensures)
-    (takenAnswer (call .bytes-to-samples .result)) (call .bytes-to-samples .last .1 .1 .0) (call .bytes-to-samples .ensures))
+    (taken (a .format) (now (a .bytes)) (now (a .samples)) (size .bytes-each .result) (least .least .result) (size .bytes-each .ensures .0) (least .least .ensures)
+    (call .bytes-to-samples .result) (call .bytes-to-samples .last .1 .1 .0) (call .bytes-to-samples .ensures))
     (clear .clear .ensures)
 
 pub samples-from-spec : {M : Type 1} → statement M

@@ -13,14 +13,14 @@ returns : tie.Need-returns
 returns c =
     let block = c .before in
     let read = block .before .before .reading .given in
-    too-long (read .0 .0) (read .0 .1 .0) (read .0 .1 .1 .0) (read .0 .1 .1 .1 .0) (block .size .result) (block .size .ensures .0) (omega arith)
+    too-long (read .0 .0) (read .0 .1 .0) (read .0 .1 .1 .0) (read .0 .1 .1 .1 .0) (block .bytes-each .result) (block .bytes-each .ensures .0) (omega arith)
     ∙ sym (ap (λ (x : Reading). planOf (readAnswer x)) (read .1))
 
 returns-2 : tie.Need-returns-2
 returns-2 c =
     let block = c .before in
     let read = block .before .before .reading .given in
-    to-be-written (read .0 .0) (read .0 .1 .0) (read .0 .1 .1 .0) (read .0 .1 .1 .1 .0) (block .size .result) (block .size .ensures .0) (omega arith)
+    to-be-written (read .0 .0) (read .0 .1 .0) (read .0 .1 .1 .0) (read .0 .1 .1 .1 .0) (block .bytes-each .result) (block .bytes-each .ensures .0) (omega arith)
     ∙ sym (ap (λ (x : Reading). planOf (readAnswer x)) (read .1))
 
 returns-3 : tie.Need-returns-3

@@ -1,5 +1,5 @@
 -- `plan::next_turn` meets its contract. Assumes nothing.
-use Rattle.wave.specs.Block.{sizeOf}
+use Rattle.wave.specs.Values.{sizeOf}
 use Rattle.eqfile.proofs.Turns.{turn-is}
 use borrow.Author.Needs.{needs}
 use Rattle.eqfile.proofs.plan.next_turn.Statement.{statement}
