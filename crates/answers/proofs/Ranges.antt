@@ -73,6 +73,11 @@ all-cons lo hi x xs e = by (within lo hi x) (firstOutside lo hi xs) e
     by true k h = (refl, le-leb (length xs) k (omega (arith, leb-true (suc (length xs)) (suc k) h)))
     by false k h = absurd (omega (arith, leb-true (suc (length xs)) 0 h))
 
+pub cons-all : (lo hi x : ℤ) (xs : List ℤ) → within lo hi x ≡ true → allWithin lo hi xs ≡ true → allWithin lo hi (x ∷ xs) ≡ true
+unfolding firstOutside
+cons-all lo hi x xs e h =
+    rw e (le-leb (suc (length xs)) (suc (firstOutside lo hi xs)) (omega (arith, leb-true (length xs) (firstOutside lo hi xs) h)))
+
 -- ---- the loop that looks for the first, over the numbers as the machine hands them on
 
 abbrev raw : ℤ → ℤ

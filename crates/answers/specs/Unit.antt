@@ -42,3 +42,7 @@ blockLimit = 4096
 -- rule 8.2: the most bytes that a header's reader looks at
 abbrev pub frontLength : ℕ
 frontLength = 4096
+
+-- the most bytes of samples that a header states: its RIFF length, 36 more, stays below 2^32
+abbrev pub largestData : ℕ
+largestData = 4294967259

@@ -14,3 +14,5 @@ pub const UNITY: i64 = 4096;
 pub const BLOCK_LIMIT: usize = 4096;
 // The most bytes that a header's reader looks at.
 pub const FRONT_LENGTH: usize = 4096;
+// The most bytes of samples that a header states.
+pub const LARGEST_DATA: u32 = 4294967259;

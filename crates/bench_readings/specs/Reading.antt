@@ -6,8 +6,9 @@ use Rattle.tree.specs.Prototype.{published}
 use Rattle.tree.specs.Signal.{signalOf, gainOf}
 use Rattle.tree.specs.Tree.{line, band, output}
 use lib.Ieee.{binary32, ofBits}
-use Rattle.gain.specs.Answer.{Answer, accepted, refused}
-use Rattle.gain.specs.Promise.{answerTo}
+use Rattle.answers.specs.Answer.{Answer, accepted, refused}
+use Rattle.gain.specs.Answer.{answerOf}
+use Rattle.gain.specs.Promise.{commandGain}
 use Rattle.gain.specs.declared.Command.the-variants.{Decibels}
 
 -- the output under gains, lowest first; a line; a band: each of a tree of M bands, fed with samples and then zeros; and a command
@@ -23,16 +24,16 @@ pub data Shown : Type 0 where
   number : ℤ → Shown
   refusal : ℕ → Shown
 
-abbrev pub shown : Answer → Shown
+abbrev pub shown : Answer ℤ → Shown
 shown (accepted g) = number g
-shown (refused n) = refusal n
+shown (refused n place) = refusal n
 
 -- what the definitions give at n; a gain is the same at every n
 unfoldable pub read : Reading → ℕ → Shown
 read (output-of M gains samples) n = number (output published M (λ _. gainOf gains) (signalOf samples) n)
 read (line-of M k samples) n = number (line published M (signalOf samples) k n)
 read (band-of M m samples) n = number (band published M (line published M (signalOf samples)) m n)
-read (decibels-of bits) n = shown (answerTo (Decibels (ofBits binary32 bits)))
+read (decibels-of bits) n = shown (answerOf (commandGain (Decibels (ofBits binary32 bits))))
 
 -- rule 14.1: a row of the table, as 313 at 0
 pub record Row : Type 0 where

@@ -9,18 +9,19 @@ use native.Mathlib.Omega.{arith}
 use lib.ListN.{length, getD, take, drop, replicate, length-drop, take-append-drop}
 use lib.Seq.{getD-drop, ext-getD, length-take-le}
 use lib.IntN.{ℤ, pos}
-use Rattle.answers.specs.Unit.{leastSample, mostSample}
 use Rattle.whole.proofs.Signed.{var, le-by}
 use Rattle.tree.specs.Prototype.{published}
 use Rattle.tree.specs.Signal.{Signal, signalOf, gainOf}
 use Rattle.tree.specs.Tree.{line, gainSum, output}
-use Rattle.octave.specs.Range.{allWithin}
+use Rattle.answers.specs.Unit.{leastSample, mostSample, unity}
 use Rattle.octave.specs.Memory.{prepared}
 use Rattle.octave.specs.History.{from}
-use Rattle.octave.proofs.Ranges.{all-at, within-parts}
+use Rattle.answers.proofs.Ranges.{all-at, cons-all}
+use Rattle.octave.proofs.Ranges.{within-parts}
 use Rattle.octave.proofs.WholeHistory.{from-at}
-use Rattle.wave.specs.Answer.{accepted}
-use Rattle.wave.specs.Block.{sizeOf, samplesOf, bytesOf, allInRange}
+use Rattle.answers.specs.Answer.{accepted}
+use Rattle.wave.specs.Samples.{samplesOf, bytesOf}
+use Rattle.wave.specs.Values.{sizeOf}
 use Rattle.wave.specs.declared.format.Format.{Format}
 use Rattle.wave.specs.declared.format.Format.the-variants.{Bits24}
 use Rattle.wave.proofs.RoundTrips.{Bytes, same-bytes}
@@ -28,20 +29,20 @@ use Rattle.wave.proofs.Singles.{block-there-and-back}
 use Rattle.eqfile.specs.Arguments.{argumentsOf}
 use Rattle.eqfile.specs.Data.{samplesFrom}
 use Rattle.eqfile.specs.Turn.{late, turnOf}
-use Rattle.eqfile.specs.Program.{Turned, Turns, handed, programWrites}
-use Rattle.eqfile.proofs.Asking.{bytes-take}
-use Rattle.eqfile.proofs.Joins.{length-from}
-use Rattle.eqfile.proofs.InRange.{from-within, out-in-range}
+use Rattle.eqfile.specs.Program.{Piece, ByPlan, handed, programWrites}
+use Rattle.eqfile.proofs.AllAsked.{bytes-take}
+use Rattle.eqfile.proofs.SamplesInPieces.{length-from}
+use Rattle.eqfile.proofs.InRange.{allInRange, none-within, from-within, out-in-range}
 use Rattle.eqfile.proofs.Written.{from-long, unity-output, noughts-are-unity, all-unity}
 use Rattle.eqfile.proofs.Program.{program-writes, program-length}
 
 -- ---- samples
 
 -- outputs 1,143 and on of samples in range are the samples
-outputs-back : (xs : List ℤ) → allWithin leastSample mostSample xs ≡ true →
-    from late (length xs) (output published 8 (λ _. gainOf (replicate 8 (pos 4096))) (signalOf xs)) ≡ xs
+outputs-back : (xs : List ℤ) → allInRange xs ≡ true →
+    from late (length xs) (output published 8 (λ _. gainOf (replicate 8 (pos unity))) (signalOf xs)) ≡ xs
 outputs-back xs e =
-    let f = output published 8 (λ _. gainOf (replicate 8 (pos 4096))) (signalOf xs) in
+    let f = output published 8 (λ _. gainOf (replicate 8 (pos unity))) (signalOf xs) in
     let long = from-long late (length xs) f in
     ext-getD (pos 0) (from late (length xs) f) xs long
     (λ n h.
@@ -49,7 +50,7 @@ outputs-back xs e =
     let z = getD xs n (pos 0) in
     let r = within-parts leastSample mostSample z (all-at leastSample mostSample xs e n i) in
     from-at late (length xs) f n i ∙ ap f (add-comm late n) ∙
-    unity-output (replicate 8 (pos 4096)) (signalOf xs) all-unity n (le-by (var leastSample) (var z) (r .0)) (le-by (var z) (var mostSample) (r .1)))
+    unity-output (replicate 8 (pos unity)) (signalOf xs) all-unity n (le-by (var leastSample) (var z) (r .0)) (le-by (var z) (var mostSample) (r .1)))
 
 -- ---- bytes
 
@@ -80,8 +81,8 @@ bytes-append [] t b c i = c i
 bytes-append (x ∷ s) t b c zero = b 0
 bytes-append (x ∷ s) t b c (suc i) = bytes-append s t (λ j. b (suc j)) c i
 
-bytes-handed : (format : Format) (samples at read : ℕ) (us : List Turned) → Turns format samples at read us → Bytes (handed us)
-unfolding Turns handed
+bytes-handed : (format : Format) (samples at read : ℕ) (us : List Piece) → ByPlan format samples at read us → Bytes (handed us)
+unfolding ByPlan handed
 bytes-handed format samples at read [] h = λ i. omega arith
 bytes-handed format samples at read (u ∷ us) h =
     let t = turnOf (sizeOf format) samples at read in
@@ -90,13 +91,13 @@ bytes-handed format samples at read (u ∷ us) h =
 -- ---- the theorems
 
 outputs-in-range : (g : ℕ → ℕ → ℤ) (x : Signal) (n k : ℕ) → allInRange (from n k (output published 8 g x)) ≡ true
-unfolding from allInRange output
-outputs-in-range g x n zero = refl
-outputs-in-range g x n (suc k) = rw (out-in-range (gainSum published 8 g (line published 8 x) n)) (outputs-in-range g x (n + 1) k)
+unfolding from output
+outputs-in-range g x n zero = none-within leastSample mostSample
+outputs-in-range g x n (suc k) = cons-all leastSample mostSample (output published 8 g x n) (from (n + 1) k (output published 8 g x)) (out-in-range (gainSum published 8 g (line published 8 x) n)) (outputs-in-range g x (n + 1) k)
 
--- 01: "what we write, we read back the same"; the header before it is read back whatever follows, `header-read-back`
-pub outputs-read-back : (texts : List (List ℕ)) (gains : List ℤ) → argumentsOf texts ≡ accepted gains → (format : Format) (samples : ℕ) (us : List Turned) →
-    Turns format samples 0 0 us →
+-- what is written is read back the same; the header before it is read back whatever follows, `header-read-back`
+pub outputs-read-back : (texts : List (List ℕ)) (gains : List ℤ) → argumentsOf texts ≡ accepted gains → (format : Format) (samples : ℕ) (us : List Piece) →
+    ByPlan format samples 0 0 us →
     samplesFrom samples Bits24 (programWrites gains format samples 0 0 (prepared 8) us) ≡
     from late samples (output published 8 (λ _. gainOf gains) (signalOf (samplesFrom samples format (handed us))))
 outputs-read-back texts gains taken format samples us turns =
@@ -107,13 +108,13 @@ outputs-read-back texts gains taken format samples us turns =
     ap₂ (λ (n : ℕ) (s : List ℕ). samplesOf n Bits24 s) (sym (from-long late samples (output published 8 (λ _. gainOf gains) x))) (program-writes texts gains taken format samples us turns) ∙
     block-there-and-back os (outputs-in-range (λ _. gainOf gains) x late samples)
 
-pub noughts-write-back : (samples : ℕ) (us : List Turned) → Turns Bits24 samples 0 0 us → length (handed us) ≡ 3 * samples →
-    programWrites (replicate 8 (pos 4096)) Bits24 samples 0 0 (prepared 8) us ≡ handed us
+pub noughts-write-back : (samples : ℕ) (us : List Piece) → ByPlan Bits24 samples 0 0 us → length (handed us) ≡ 3 * samples →
+    programWrites (replicate 8 (pos unity)) Bits24 samples 0 0 (prepared 8) us ≡ handed us
 noughts-write-back samples us turns all =
     let xs = samplesFrom samples Bits24 (handed us) in
     let bytes = bytes-handed Bits24 samples 0 0 us turns in
-    program-writes (replicate 8 (48 ∷ [])) (replicate 8 (pos 4096)) noughts-are-unity Bits24 samples us turns ∙
+    program-writes (replicate 8 (48 ∷ [])) (replicate 8 (pos unity)) noughts-are-unity Bits24 samples us turns ∙
     ap bytesOf
-    (ap (λ (k : ℕ). from late k (output published 8 (λ _. gainOf (replicate 8 (pos 4096))) (signalOf xs))) (sym (length-from samples Bits24 (handed us))) ∙
+    (ap (λ (k : ℕ). from late k (output published 8 (λ _. gainOf (replicate 8 (pos unity))) (signalOf xs))) (sym (length-from samples Bits24 (handed us))) ∙
     outputs-back xs (from-within samples Bits24 (handed us) bytes) ∙ all-there samples (handed us) all) ∙
     bytes-back samples (handed us) bytes all

@@ -6,7 +6,8 @@ use Prim.Native.Nat.{ℕ, _+_, _-_, _*_, _/_, _≤_, min}
 use native.Mathlib.Nat.{mul-le-mul-left, div-add-mod', mul-comm}
 use native.Mathlib.Omega.{arith}
 use lib.Dec.{ltb}
-use Rattle.wave.specs.Answer.{Answer, accepted, refused}
+use Rattle.answers.specs.Answer.{Answer, accepted, refused}
+use Rattle.answers.specs.Unit.{largestData}
 use Rattle.wave.specs.Values.{blockSize}
 use Rattle.wave.specs.Walk.{Found}
 use Rattle.eqfile.specs.Start.{Plan, planFor}
@@ -51,9 +52,9 @@ never-more size samples gots h = omega (arith, within size samples 0 0 gots (ome
 
 -- .. which is no more than the `data` length
 pub within-the-data : (f : Found) (p : Plan) → planFor f ≡ accepted p → blockSize (f .bits) * p .samples ≤ f .size
-within-the-data f p = by (ltb 4294967259 (3 * (f .size / blockSize (f .bits))))
+within-the-data f p = by (ltb largestData (3 * (f .size / blockSize (f .bits))))
   where
-    by : (b : Bool) → cond b (refused 26) (accepted (record { rate = f .rate; bits = f .bits; samples = f .size / blockSize (f .bits); start = f .start })) ≡ accepted p →
+    by : (b : Bool) → cond b (refused 26 0) (accepted (record { rate = f .rate; bits = f .bits; samples = f .size / blockSize (f .bits); start = f .start })) ≡ accepted p →
         blockSize (f .bits) * p .samples ≤ f .size
     by true e = let z : _≡_ {A = ℕ} 0 1 = cc in absurd (omega arith)
     by false e =
@@ -62,4 +63,4 @@ within-the-data f p = by (ltb 4294967259 (3 * (f .size / blockSize (f .bits))))
       where
         samplesIn : Answer Plan → ℕ
         samplesIn (accepted q) = q .samples
-        samplesIn (refused k) = 0
+        samplesIn (refused k p) = 0

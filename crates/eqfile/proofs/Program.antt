@@ -1,5 +1,4 @@
--- The program's run, 01, The program: it "writes a 24-bit WAVE whose sample n is output n + 1,143; zeros follow the input". Each turn's block is
--- accepted, and together they write that, however the bytes were handed over. Assumes nothing.
+-- The program's run: sample n that is written is output n + 1,143, and zeros follow the input. Each turn's block is accepted, and together they write that, however the bytes were handed over. Assumes nothing.
 use mathlib.Core.Path.{_≡_, refl, sym, ap, ap₂, _∙_}
 use mathlib.Core.List.{List, [], _∷_, _++_}
 use Prim.Native.Nat.{ℕ, _+_, _-_, _*_, _<_, min}
@@ -13,22 +12,25 @@ use Rattle.tree.specs.Signal.{signalOf, gainOf}
 use Rattle.tree.specs.Tree.{output}
 use Rattle.octave.specs.Memory.{prepared}
 use Rattle.octave.specs.Block.{blockOf}
+use Rattle.octave.specs.Answer.{blockAnswer}
 use Rattle.octave.specs.History.{played, AllAccepted, from}
-use Rattle.wave.specs.Answer.{accepted}
-use Rattle.wave.specs.Block.{sizeOf, bytesOf}
+use Rattle.octave.proofs.WholeHistory.{played-accepted}
+use Rattle.answers.specs.Answer.{accepted}
+use Rattle.wave.specs.Samples.{bytesOf}
+use Rattle.wave.specs.Values.{sizeOf}
 use Rattle.wave.specs.declared.format.Format.{Format}
-use Rattle.wave.proofs.Blocks.{length-bytes, bytes-append}
+use Rattle.wave.proofs.Storing.{length-bytes, bytes-append}
 use Rattle.eqfile.specs.Arguments.{argumentsOf}
 use Rattle.eqfile.specs.Data.{samplesFrom}
 use Rattle.eqfile.specs.Turn.{late, turnOf}
 use Rattle.eqfile.specs.Equalise.{equaliseOf}
-use Rattle.eqfile.specs.Program.{Turned, Follows, Turns, handed, programWrites}
+use Rattle.eqfile.specs.Program.{Piece, Follows, ByPlan, handed, programWrites}
 use Rattle.eqfile.proofs.Written.{SameGains, from-long, written-are}
-use Rattle.eqfile.proofs.Pieces.{calls, calls-join}
-use Rattle.eqfile.proofs.Accepting.{Ready, prepared-ready, Done, Allowed, block-done, stored-all}
-use Rattle.eqfile.proofs.Joins.{length-from}
+use Rattle.eqfile.proofs.BlockCalls.{calls, calls-join}
+use Rattle.eqfile.proofs.NeverRefused.{Ready, prepared-ready, BlockDone, Allowed, block-done, stored-all}
+use Rattle.eqfile.proofs.SamplesInPieces.{length-from}
 use Rattle.eqfile.proofs.InRange.{from-within}
-use Rattle.eqfile.proofs.Allowing.{arguments-allowed}
+use Rattle.eqfile.proofs.AllowedGains.{arguments-allowed}
 
 -- ---- the turns, from any memory that a block takes
 
@@ -45,9 +47,13 @@ drop-append n k r xs ys e f = by (decLt (length xs) n)
         let none : 0 ≡ r = omega arith in
         drop-append-le n xs ys (omega arith) ∙ ap₂ (λ (i j : ℕ). drop i xs ++ drop j ys) here none
 
+none-played : (m : List ℤ) → played m [] .output ≡ []
+unfolding played
+none-played m = refl
+
 module _ (gains : List ℤ) (allowed : Allowed gains) (format : Format) (samples : ℕ) where
-  turn-done : (at read : ℕ) (m : List ℤ) (u : Turned) → Ready m → Follows (turnOf (sizeOf format) samples at read) u →
-      Done (samplesFrom (length (u .input)) format (u .read)) (blockOf m gains (samplesFrom (length (u .input)) format (u .read)) (u .output))
+  turn-done : (at read : ℕ) (m : List ℤ) (u : Piece) → Ready m → Follows (turnOf (sizeOf format) samples at read) u →
+      BlockDone (samplesFrom (length (u .input)) format (u .read)) (blockOf m gains (samplesFrom (length (u .input)) format (u .read)) (u .output))
   unfolding turnOf
   turn-done at read m u r f =
       let input = samplesFrom (length (u .input)) format (u .read) in
@@ -55,39 +61,42 @@ module _ (gains : List ℤ) (allowed : Allowed gains) (format : Format) (samples
       block-done m gains input (u .output) r allowed (omega (arith, long, f .input-long, f .output-long)) (omega (arith, long, f .input-long))
       (from-within (length (u .input)) format (u .read) (f .bytes))
 
-  all-accepted : (at read : ℕ) (m : List ℤ) (us : List Turned) → Ready m → Turns format samples at read us → AllAccepted m (calls gains format us)
-  unfolding Turns calls AllAccepted
+  all-accepted : (at read : ℕ) (m : List ℤ) (us : List Piece) → Ready m → ByPlan format samples at read us → AllAccepted m (calls gains format us)
+  unfolding ByPlan calls AllAccepted
   all-accepted at read m [] r h = tt
   all-accepted at read m (u ∷ us) r h =
       let t = turnOf (sizeOf format) samples at read in
       let d = turn-done at read m u r (h .0) in
-      (d .accepts, all-accepted (at + t .fed) (read + length (u .read)) (blockOf m gains (samplesFrom (length (u .input)) format (u .read)) (u .output) .memory) us (d .ready) (h .1))
+      (ap blockAnswer (d .accepts), all-accepted (at + t .fed) (read + length (u .read)) (blockOf m gains (samplesFrom (length (u .input)) format (u .read)) (u .output) .lent .0) us (d .ready) (h .1))
 
-  all-written : (at read : ℕ) (m : List ℤ) (us : List Turned) → Ready m → Turns format samples at read us →
+  all-written : (at read : ℕ) (m : List ℤ) (us : List Piece) → Ready m → ByPlan format samples at read us →
       programWrites gains format samples at read m us ≡ bytesOf (drop (late - at) (played m (calls gains format us) .output))
-  unfolding Turns calls played programWrites equaliseOf turnOf bytesOf
-  all-written at read m [] r h = sym (ap bytesOf (drop-nil (late - at)))
+  unfolding ByPlan calls programWrites equaliseOf turnOf bytesOf
+  all-written at read m [] r h = sym (ap bytesOf (ap (drop (late - at)) (none-played m) ∙ drop-nil (late - at)))
   all-written at read m (u ∷ us) r h =
       let t = turnOf (sizeOf format) samples at read in
       let input = samplesFrom (length (u .input)) format (u .read) in
       let b = blockOf m gains input (u .output) in
       let d = turn-done at read m u r (h .0) in
-      let rest = played (b .memory) (calls gains format us) .output in
-      let long : length (b .output) ≡ t .fed = d .long ∙ length-from (length (u .input)) format (u .read) ∙ h .0 .input-long in
-      ap₂ _++_ (stored-all (b .output) (t .skipped) (u .stored) (omega arith) (omega (arith, h .0 .stored-long)) (d .in-range))
-      (all-written (at + t .fed) (read + length (u .read)) (b .memory) us (d .ready) (h .1)) ∙
-      sym (bytes-append (drop (t .skipped) (b .output)) (drop (late - (at + t .fed)) rest)) ∙
-      ap bytesOf (sym (drop-append (late - at) (t .skipped) (late - (at + t .fed)) (b .output) rest (omega arith) (omega arith)))
+      let rest = played (b .lent .0) (calls gains format us) .output in
+      let long : length (b .lent .1) ≡ t .fed = d .long ∙ length-from (length (u .input)) format (u .read) ∙ h .0 .input-long in
+      ap₂ _++_ (stored-all (b .lent .1) (t .skipped) (u .stored) (omega arith) (omega (arith, h .0 .stored-long)) (d .in-range))
+      (all-written (at + t .fed) (read + length (u .read)) (b .lent .0) us (d .ready) (h .1)) ∙
+      sym (bytes-append (drop (t .skipped) (b .lent .1)) (drop (late - (at + t .fed)) rest)) ∙
+      ap bytesOf
+      (sym
+      (ap (drop (late - at)) (played-accepted m (record { gains = gains; input = input; before = u .output }) (calls gains format us) (ap blockAnswer (d .accepts))) ∙
+      drop-append (late - at) (t .skipped) (late - (at + t .fed)) (b .lent .1) rest (omega arith) (omega arith)))
 
-same-gains : (gains : List ℤ) (format : Format) (us : List Turned) → SameGains gains (calls gains format us)
+same-gains : (gains : List ℤ) (format : Format) (us : List Piece) → SameGains gains (calls gains format us)
 unfolding SameGains calls
 same-gains gains format [] = tt
 same-gains gains format (u ∷ us) = (refl, same-gains gains format us)
 
 -- ---- the theorem
 
-module _ (texts : List (List ℕ)) (gains : List ℤ) (taken : argumentsOf texts ≡ accepted gains) (format : Format) (samples : ℕ) (us : List Turned)
-    (turns : Turns format samples 0 0 us) where
+module _ (texts : List (List ℕ)) (gains : List ℤ) (taken : argumentsOf texts ≡ accepted gains) (format : Format) (samples : ℕ) (us : List Piece)
+    (turns : ByPlan format samples 0 0 us) where
   -- no block call of a run is refused
   pub turns-accepted : AllAccepted (prepared 8) (calls gains format us)
   turns-accepted = all-accepted gains (arguments-allowed texts gains taken) format samples 0 0 (prepared 8) us prepared-ready turns
@@ -110,8 +119,8 @@ module _ (texts : List (List ℕ)) (gains : List ℤ) (taken : argumentsOf texts
       ap length program-writes ∙ length-bytes (from late samples f) ∙ ap (λ (n : ℕ). 3 * n) (from-long late samples f)
 
 -- the same bytes in other pieces: the same bytes are written
-pub pieces-do-not-matter : (texts : List (List ℕ)) (gains : List ℤ) → argumentsOf texts ≡ accepted gains → (format : Format) (samples : ℕ) (us vs : List Turned) →
-    Turns format samples 0 0 us → Turns format samples 0 0 vs → handed us ≡ handed vs →
+pub pieces-do-not-matter : (texts : List (List ℕ)) (gains : List ℤ) → argumentsOf texts ≡ accepted gains → (format : Format) (samples : ℕ) (us vs : List Piece) →
+    ByPlan format samples 0 0 us → ByPlan format samples 0 0 vs → handed us ≡ handed vs →
     programWrites gains format samples 0 0 (prepared 8) us ≡ programWrites gains format samples 0 0 (prepared 8) vs
 pieces-do-not-matter texts gains taken format samples us vs t u e =
     program-writes texts gains taken format samples us t ∙

@@ -1,4 +1,4 @@
--- The samples written, 01, The program: "a 24-bit WAVE whose sample n is output n + 1,143; zeros follow the input". Over any block
+-- The samples written: sample n is output n + 1,143, and zeros follow the input. Over any block
 -- calls, however the samples were cut. Assumes nothing.
 use mathlib.Core.Path.{_≡_, refl, sym, ap, _∙_, fun-ext}
 use mathlib.Core.List.{List, [], _∷_, _++_}
@@ -11,7 +11,6 @@ use lib.Seq.{getD-drop, ext-getD}
 use lib.IntN.{ℤ, pos, _*ℤ_}
 use lib.Signed.{_≤ℤ_}
 use borrow.Author.Tests.{le-leb}
-use Rattle.answers.specs.Unit.{leastSample, mostSample}
 use Rattle.whole.specs.Limit.{limit}
 use Rattle.whole.specs.Nearest.{nearest}
 use Rattle.whole.proofs.Nearest.{nearest-exact}
@@ -23,9 +22,10 @@ use Rattle.tree.proofs.EqualGains.{equal-gains}
 use Rattle.octave.specs.Memory.{prepared}
 use Rattle.octave.specs.History.{Call, played, AllAccepted, joined, carried, from}
 use Rattle.octave.proofs.WholeHistory.{from-at, whole-history, output-ext, output-at, carried-here, carried-later}
+use Rattle.answers.specs.Unit.{leastSample, mostSample, unity}
 use Rattle.gain.specs.Table.{entry, gains}
-use Rattle.wave.specs.Answer.{accepted}
-use Rattle.eqfile.specs.Argument.{halfDecibels, argumentOf}
+use Rattle.answers.specs.Answer.{accepted}
+use Rattle.eqfile.specs.Argument.{placeOf, argumentOf}
 use Rattle.eqfile.specs.Arguments.{eachGain, argumentsOf}
 use Rattle.eqfile.specs.Turn.{late}
 
@@ -63,12 +63,12 @@ from-long n zero f = refl
 from-long n (suc k) f = ap suc (from-long (n + 1) k f)
 
 -- gains of 4,096: output n + 1,143 is sample n
-pub unity-output : (gains : List ℤ) (x : Signal) → ((m : ℕ) → 1 ≤ m → m ≤ 8 → gainOf gains m ≡ pos 4096) → (n : ℕ) →
+pub unity-output : (gains : List ℤ) (x : Signal) → ((m : ℕ) → 1 ≤ m → m ≤ 8 → gainOf gains m ≡ pos unity) → (n : ℕ) →
     leastSample ≤ℤ x n → x n ≤ℤ mostSample → output published 8 (λ _. gainOf gains) x (n + late) ≡ x n
-unity-output gains x unity n lo hi =
-    equal-gains published 8 (pos 4096) (λ _. gainOf gains) x (n + late) (omega arith) unity ∙
-    ap (λ (z : ℤ). limit leastSample mostSample (nearest 4096 (pos 4096 *ℤ z))) delayed ∙
-    ap (limit leastSample mostSample) (nearest-exact 4096 (omega arith) (x n)) ∙ limit-id leastSample mostSample (x n) lo hi
+unity-output gains x each n lo hi =
+    equal-gains published 8 (pos unity) (λ _. gainOf gains) x (n + late) (omega arith) each ∙
+    ap (λ (z : ℤ). limit leastSample mostSample (nearest unity (pos unity *ℤ z))) delayed ∙
+    ap (limit leastSample mostSample) (nearest-exact unity (omega arith) (x n)) ∙ limit-id leastSample mostSample (x n) lo hi
   where
     delayed : back x (n + late) late ≡ x n
     delayed = rw (le-leb late (n + late) (omega arith)) (ap x (omega arith))
@@ -100,21 +100,21 @@ module _ (gains xs : List ℤ) (cs : List Call) (all : AllAccepted (prepared 8) 
       (λ n h. let i : n < length xs = omega arith in written-is n i ∙ ap f (add-comm n late) ∙ sym (from-at late (length xs) f n i))
 
   -- gains of 4,096 give every sample back
-  pub unity-gives-back : ((m : ℕ) → 1 ≤ m → m ≤ 8 → gainOf gains m ≡ pos 4096) → (n : ℕ) → n < length xs →
+  pub unity-gives-back : ((m : ℕ) → 1 ≤ m → m ≤ 8 → gainOf gains m ≡ pos unity) → (n : ℕ) → n < length xs →
       leastSample ≤ℤ signalOf xs n → signalOf xs n ≤ℤ mostSample → getD (drop late (played (prepared 8) cs .output)) n (pos 0) ≡ getD xs n (pos 0)
-  unity-gives-back unity n h lo hi = written-is n h ∙ unity-output gains (signalOf xs) unity n lo hi
+  unity-gives-back each n h lo hi = written-is n h ∙ unity-output gains (signalOf xs) each n lo hi
 
 -- ---- arguments all 0
 
 -- eight noughts are accepted as eight gains of 4,096
-pub noughts-are-unity : argumentsOf (replicate 8 (48 ∷ [])) ≡ accepted (replicate 8 (pos 4096))
-unfolding argumentsOf eachGain argumentOf halfDecibels entry gains
+pub noughts-are-unity : argumentsOf (replicate 8 (48 ∷ [])) ≡ accepted (replicate 8 (pos unity))
+unfolding argumentsOf eachGain argumentOf placeOf entry gains
 noughts-are-unity = refl
 
-pub all-unity : (m : ℕ) → 1 ≤ m → m ≤ 8 → gainOf (replicate 8 (pos 4096)) m ≡ pos 4096
-all-unity m l h = getD-replicate 8 (m - 1) (pos 4096) (pos 0) (omega arith)
+pub all-unity : (m : ℕ) → 1 ≤ m → m ≤ 8 → gainOf (replicate 8 (pos unity)) m ≡ pos unity
+all-unity m l h = getD-replicate 8 (m - 1) (pos unity) (pos 0) (omega arith)
 
 -- .. and give every sample in range back
-pub noughts-give-back : (xs : List ℤ) (cs : List Call) → AllAccepted (prepared 8) cs → SameGains (replicate 8 (pos 4096)) cs → joined cs ≡ followed xs → (n : ℕ) → n < length xs →
+pub noughts-give-back : (xs : List ℤ) (cs : List Call) → AllAccepted (prepared 8) cs → SameGains (replicate 8 (pos unity)) cs → joined cs ≡ followed xs → (n : ℕ) → n < length xs →
     leastSample ≤ℤ signalOf xs n → signalOf xs n ≤ℤ mostSample → getD (drop late (played (prepared 8) cs .output)) n (pos 0) ≡ getD xs n (pos 0)
-noughts-give-back xs cs all same fed = unity-gives-back (replicate 8 (pos 4096)) xs cs all same fed all-unity
+noughts-give-back xs cs all same fed = unity-gives-back (replicate 8 (pos unity)) xs cs all same fed all-unity

@@ -1,13 +1,16 @@
--- 01, Refusal numbers: "30 arguments not eight whole numbers from -24 to 24, each one or two digits after at most one minus". One argument.
-use mathlib.Core.Bool.{Bool, not, true, false, cond}
+-- One argument of the program: a whole number of half decibels from -24 to 24, one or two digits after at most one minus.
+use mathlib.Core.Bool.{Bool, not, false, cond}
 use mathlib.Core.List.{List}
 use Prim.Native.Nat.{ℕ, _+_, _-_, _*_}
 use lib.Dec.{eqb, leb, ltb}
 use lib.ListN.{length, getD, drop}
-use lib.IntN.{ℤ, pos}
-use Rattle.gain.specs.Decibels.{signed}
+use lib.IntN.{ℤ, pos, _-ℤ_}
 use Rattle.gain.specs.Table.{entry}
-use Rattle.wave.specs.Answer.{Answer, accepted, refused}
+use Rattle.answers.specs.Answer.{Answer, accepted, refused}
+use Rattle.eqfile.specs.declared.digits.Digits.{Digits}
+use Rattle.eqfile.specs.declared.digits.Digits.the-variants as digits
+use Rattle.eqfile.specs.declared.half.Place.{Place}
+use Rattle.eqfile.specs.declared.half.Place.the-variants as place
 use Rattle.eqfile.specs.declared.half.Argument.{Argument}
 use Rattle.eqfile.specs.declared.half.Argument.the-variants.{Gain, Refused}
 
@@ -15,38 +18,43 @@ use Rattle.eqfile.specs.declared.half.Argument.the-variants.{Gain, Refus
 abbrev pub isDigit : ℕ → Bool
 isDigit b = cond (ltb b 48) false (leb b 57)
 
--- two digits, tens and ones: "from -24 to 24"
-abbrev pub upTo24 : ℕ → ℕ → Answer ℕ
+-- two digits, tens and ones, if they come to at most 24
+abbrev pub upTo24 : ℕ → ℕ → Digits
 upTo24 tens ones =
     let n = 10 * (tens - 48) + (ones - 48) in
-    cond (not (isDigit tens)) (refused 30) (cond (not (isDigit ones)) (refused 30) (cond (leb n 24) (accepted n) (refused 30)))
+    cond (not (isDigit tens)) digits.Not (cond (not (isDigit ones)) digits.Not (cond (leb n 24) (digits.Value n) digits.Not))
 
--- "one or two digits": one digit d is 0d
-abbrev pub digitsOf : List ℕ → Answer ℕ
+-- one digit or two: one digit d is 0d
+abbrev pub digitsOf : List ℕ → Digits
 digitsOf s =
     cond (eqb (length s) 1) (upTo24 48 (getD s 0 0))
     (cond (eqb (length s) 2) (upTo24 (getD s 0 0) (getD s 1 0))
-    (refused 30))
+    digits.Not)
 
--- n, or -n where s is true
-abbrev pub withSign : Bool → Answer ℕ → Answer ℤ
-withSign s (accepted n) = accepted (signed s n)
-withSign s (refused k) = refused k
+-- the place in the gain table of n half decibels
+abbrev pub above : Digits → Place
+above (digits.Value n) = place.At (24 + n)
+above digits.Not = place.Not
 
--- "after at most one minus", which is the byte 45: the number of half decibels
-unfoldable pub halfDecibels : List ℕ → Answer ℤ
-halfDecibels s = cond (eqb (getD s 0 0) 45) (withSign true (digitsOf (drop 1 s))) (withSign false (digitsOf s))
+-- .. and of -n
+abbrev pub below : Digits → Place
+below (digits.Value n) = place.At (24 - n)
+below digits.Not = place.Not
 
--- "Entry g for n": the gain of so many half decibels
-abbrev pub gainFor : Answer ℤ → Answer ℤ
-gainFor (accepted n) = accepted (pos (entry n))
-gainFor (refused k) = refused k
+-- after at most one minus, which is the byte 45
+unfoldable pub placeOf : List ℕ → Place
+placeOf s = cond (eqb (getD s 0 0) 45) (below (digitsOf (drop 1 s))) (above (digitsOf s))
 
-unfoldable pub argumentOf : List ℕ → Answer ℤ
-unfolding halfDecibels
-argumentOf s = gainFor (halfDecibels s)
+-- the table's gain for place i, which is i - 24 half decibels
+abbrev pub gainFor : Place → Argument
+gainFor (place.At i) = Gain (pos (entry (pos i -ℤ pos 24)))
+gainFor place.Not = Refused
 
--- the page's number and value for `Argument`
+unfoldable pub argumentOf : List ℕ → Argument
+unfolding placeOf
+argumentOf s = gainFor (placeOf s)
+
+-- in the rule book's numbers
 abbrev pub argumentAnswer : Argument → Answer ℤ
 argumentAnswer (Gain g) = accepted g
-argumentAnswer Refused = refused 30
+argumentAnswer Refused = refused 30 0

@@ -1,53 +1,64 @@
--- 01, The program: "takes eight arguments, half decibels, lowest band first".
+-- The program's arguments, lowest band first.
 use mathlib.Core.Bool.{cond}
 use mathlib.Core.List.{List, [], _∷_}
 use Prim.Native.Nat.{ℕ, _+_}
 use lib.Dec.{eqb, leb}
 use lib.ListN.{length, set}
 use lib.IntN.{ℤ}
-use Rattle.wave.specs.Answer.{Answer, accepted, refused}
-use Rattle.eqfile.specs.Argument.{argumentOf}
+use Rattle.answers.specs.Answer.{Answer, accepted, refused}
+use Rattle.answers.specs.Unit.{frontLength}
+use Rattle.eqfile.specs.declared.half.Argument.{Argument}
+use Rattle.eqfile.specs.declared.half.Argument.the-variants as argument
 use Rattle.eqfile.specs.declared.taking.Arguments.{Arguments}
 use Rattle.eqfile.specs.declared.taking.Arguments.the-variants.{Taken, Refused}
+use Rattle.eqfile.specs.Argument.{argumentOf}
+
+-- the program's band count, so many arguments
+abbrev pub bands : ℕ
+bands = 8
+
+-- ---- one after the other
 
 -- an accepted gain is put at place n
-abbrev pub put : ℕ → Answer ℤ → List ℤ → Answer ℕ × List ℤ
-put n (accepted g) gains = (accepted (n + 1), set gains n g)
-put n (refused k) gains = (refused 30, gains)
+abbrev pub put : ℕ → Argument → List ℤ → Arguments × List ℤ
+put n (argument.Gain g) gains = (Taken (n + 1), set gains n g)
+put n argument.Refused gains = (Refused, gains)
 
--- one more argument after n were taken: 30 if it is refused, or if there is no place for its gain
-unfoldable pub another : Answer ℕ → List ℕ → List ℤ → Answer ℕ × List ℤ
+-- one more argument: refused if it is, or if there is no place for its gain, or after a refused one
+unfoldable pub another : Arguments → List ℕ → List ℤ → Arguments × List ℤ
 unfolding argumentOf
-another (accepted n) text gains = cond (leb (length gains) n) (refused 30, gains) (put n (argumentOf text) gains)
-another (refused k) text gains = (refused 30, gains)
+another (Taken n) text gains = cond (leb (length gains) n) (Refused, gains) (put n (argumentOf text) gains)
+another Refused text gains = (Refused, gains)
 
--- the gains of some arguments, lowest first; 30 if one is refused
-abbrev pub with : Answer ℤ → Answer (List ℤ) → Answer (List ℤ)
-with (accepted g) (accepted gs) = accepted (g ∷ gs)
-with (accepted g) (refused k) = refused 30
-with (refused k) gs = refused 30
+-- all arguments
+unfoldable pub allOf : Arguments × List ℤ → List (List ℕ) → Arguments × List ℤ
+allOf so-far [] = so-far
+allOf so-far (text ∷ texts) = allOf (another (so-far .0) text (so-far .1)) texts
+
+-- the bytes of the front to be read: none before as many arguments are taken as there are bands
+abbrev pub frontWanted : Arguments → ℕ
+frontWanted (Taken n) = cond (eqb n bands) frontLength 0
+frontWanted Refused = 0
+
+-- ---- all at once
+
+-- a gain before others; refused if one is
+abbrev pub with : Argument → Answer (List ℤ) → Answer (List ℤ)
+with (argument.Gain g) (accepted gs) = accepted (g ∷ gs)
+with (argument.Gain g) (refused k p) = refused k p
+with argument.Refused gs = refused 30 0
 
 unfoldable pub eachGain : List (List ℕ) → Answer (List ℤ)
 unfolding argumentOf
 eachGain [] = accepted []
 eachGain (text ∷ texts) = with (argumentOf text) (eachGain texts)
 
--- "30 arguments not eight whole numbers from -24 to 24"
+-- the gains of eight accepted arguments, else 30
 unfoldable pub argumentsOf : List (List ℕ) → Answer (List ℤ)
 unfolding eachGain
-argumentsOf texts = cond (eqb (length texts) 8) (eachGain texts) (refused 30)
+argumentsOf texts = cond (eqb (length texts) bands) (eachGain texts) (refused 30 0)
 
--- all arguments, one after the other
-unfoldable pub allOf : Answer ℕ × List ℤ → List (List ℕ) → Answer ℕ × List ℤ
-allOf so-far [] = so-far
-allOf so-far (text ∷ texts) = allOf (another (so-far .0) text (so-far .1)) texts
-
--- 01, WAVE: "the first 4,096 bytes", and only after eight arguments
-abbrev pub frontLength : Answer ℕ → ℕ
-frontLength (accepted n) = cond (eqb n 8) 4096 0
-frontLength (refused k) = 0
-
--- the page's number and value for `Arguments`
+-- in the rule book's numbers
 abbrev pub argumentsAnswer : Arguments → Answer ℕ
 argumentsAnswer (Taken n) = accepted n
-argumentsAnswer Refused = refused 30
+argumentsAnswer Refused = refused 30 0

@@ -1,9 +1,10 @@
--- Bytes to samples, 01, The program: "If data ends early, each sample not wholly there is 0".
+-- Bytes to samples: if data ends early, each sample that is not wholly there is 0.
 use mathlib.Core.List.{List, _++_}
 use Prim.Native.Nat.{ℕ, _-_, _/_, min}
 use lib.ListN.{length, take, drop, replicate}
 use lib.IntN.{ℤ, pos}
-use Rattle.wave.specs.Block.{sizeOf, samplesOf}
+use Rattle.wave.specs.Samples.{samplesOf}
+use Rattle.wave.specs.Values.{sizeOf}
 use Rattle.wave.specs.declared.format.Format.{Format}
 
 -- how many data bytes the front holds from a place on that go into a block's bytes, and those bytes afterwards

@@ -4,5 +4,4 @@ pub mod Start
 pub mod Turn
 pub mod Data
 pub mod Equalise
-pub mod Code
 pub mod Program

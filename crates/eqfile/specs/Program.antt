@@ -4,42 +4,43 @@ use mathlib.Core.List.{List, [], _∷_, _++_}
 use Prim.Native.Nat.{ℕ, _+_, _≤_, _<_}
 use lib.ListN.{length, getD, take}
 use lib.IntN.{ℤ}
-use Rattle.wave.specs.Block.{sizeOf}
+use Rattle.wave.specs.Values.{sizeOf}
 use Rattle.wave.specs.declared.format.Format.{Format}
-use Rattle.eqfile.specs.Turn.{Block, fedInAll, turnOf}
+use Rattle.eqfile.specs.declared.plan.Turn.{Turn}
+use Rattle.eqfile.specs.Turn.{fedInAll, turnOf}
 use Rattle.eqfile.specs.Equalise.{equaliseOf}
 
--- a turn: the bytes that were read for its block, and what its three buffers held before
-pub record Turned : Type 0 where
+-- the bytes that were read for one turn, and what its three buffers held before
+pub record Piece : Type 0 where
   pub read : List ℕ
   pub input : List ℤ
   pub output : List ℤ
   pub stored : List ℕ
 
--- a turn by the plan: no more bytes than it wants ("If data ends early", fewer), and buffers as long as its block
-pub record Follows (t : Block) (u : Turned) : Type 0 where
+-- a piece by the plan: no more bytes than the turn wants (fewer if data ends early), and buffers as long as its block
+pub record Follows (t : Turn) (u : Piece) : Type 0 where
   pub read-most : length (u .read) ≤ t .wanted
   pub bytes : (i : ℕ) → getD (u .read) i 0 < 256
   pub input-long : length (u .input) ≡ t .fed
   pub output-long : length (u .output) ≡ t .fed
   pub stored-long : length (u .stored) ≡ t .written
 
--- the turns after `at` samples were fed and `read` bytes read, until the file's samples and the zeros that "follow the input" are all fed
-unfoldable pub Turns : Format → (samples at read : ℕ) → List Turned → Type 0
-Turns format samples at read [] = fedInAll samples ≤ at
-Turns format samples at read (u ∷ us) =
+-- each piece by the plan, after `at` samples were fed and `read` bytes read, until the file's samples and the zeros that follow are all fed
+unfoldable pub ByPlan : Format → (samples at read : ℕ) → List Piece → Type 0
+ByPlan format samples at read [] = fedInAll samples ≤ at
+ByPlan format samples at read (u ∷ us) =
     let t = turnOf (sizeOf format) samples at read in
-    Follows t u × Turns format samples (at + t .fed) (read + length (u .read)) us
+    Follows t u × ByPlan format samples (at + t .fed) (read + length (u .read)) us
 
--- "the data bytes read", joined
-unfoldable pub handed : List Turned → List ℕ
+-- the data bytes read, joined
+unfoldable pub handed : List Piece → List ℕ
 handed [] = []
 handed (u ∷ us) = u .read ++ handed us
 
 -- the bytes that those turns write, from some memory on: of each block's stored bytes as many as the call answers
-unfoldable pub programWrites : List ℤ → Format → (samples at read : ℕ) → List ℤ → List Turned → List ℕ
+unfoldable pub programWrites : List ℤ → Format → (samples at read : ℕ) → List ℤ → List Piece → List ℕ
 programWrites gains format samples at read memory [] = []
 programWrites gains format samples at read memory (u ∷ us) =
     let t = turnOf (sizeOf format) samples at read in
     let b = equaliseOf memory gains format (u .read) (u .input) (u .output) (t .skipped) (u .stored) in
-    take (b .count) (b .stored) ++ programWrites gains format samples (at + t .fed) (read + length (u .read)) (b .memory) us
+    take (b .result) (b .lent .stored) ++ programWrites gains format samples (at + t .fed) (read + length (u .read)) (b .lent .memory) us

@@ -1,11 +1,15 @@
--- 01, Refusal numbers, the row "program": "30 ..; then the reader's; then 26 for the length to be written".
+-- How a run starts: 30 for the arguments, then the reader's refusals, then 26 for the length to be written.
 use mathlib.Core.Bool.{cond}
 use mathlib.Core.List.{List}
 use Prim.Native.Nat.{ℕ, _*_, _/_}
 use lib.Dec.{eqb, ltb}
-use Rattle.wave.specs.Answer.{Answer, accepted, refused}
+use Rattle.answers.specs.Answer.{Answer, accepted, refused}
+use Rattle.answers.specs.Unit.{largestData}
 use Rattle.wave.specs.Values.{bitsOf, blockSize}
 use Rattle.wave.specs.Walk.{Found, readOf}
+use Rattle.eqfile.specs.declared.taking.Arguments.{Arguments}
+use Rattle.eqfile.specs.declared.taking.Arguments.the-variants as arguments
+use Rattle.eqfile.specs.Arguments.{bands}
 use Rattle.eqfile.specs.declared.order.Refusal.{Refusal}
 use Rattle.eqfile.specs.declared.order.Refusal.the-variants as refusal
 use Rattle.eqfile.specs.declared.order.Start.{Start}
@@ -18,7 +22,7 @@ pub record Plan : Type 0 where
   pub samples : ℕ
   pub start : ℕ
 
--- the page's number of a refusal
+-- the rule book's number of a refusal
 abbrev pub numberOf : Refusal → ℕ
 numberOf refusal.Arguments = 30
 numberOf refusal.NotWave = 21
@@ -28,25 +32,25 @@ numberOf refusal.CutOff = 24
 numberOf refusal.PartSample = 25
 numberOf refusal.TooLong = 26
 
--- the samples in the data, and the bytes that they are written in: "26 .. above 4,294,967,259"
+-- the samples in the data, if a header can state the bytes that they are written in
 abbrev pub planFor : Found → Answer Plan
 planFor f =
     let samples = f .size / blockSize (f .bits) in
-    cond (ltb 4294967259 (3 * samples)) (refused 26)
+    cond (ltb largestData (3 * samples)) (refused 26 0)
     (accepted (record { rate = f .rate; bits = f .bits; samples = samples; start = f .start }))
 
--- "then the reader's; then 26"
+-- then the reader's; then 26
 unfoldable pub planOf : Answer Found → Answer Plan
 planOf (accepted f) = planFor f
-planOf (refused n) = refused n
+planOf (refused n p) = refused n p
 
--- first 30: refused arguments, "and any other number" than eight
-unfoldable pub startOf : Answer ℕ → List ℕ → Answer Plan
+-- first 30: refused arguments, and any other number than eight
+unfoldable pub startOf : Arguments → List ℕ → Answer Plan
 unfolding planOf
-startOf (accepted n) front = cond (eqb n 8) (planOf (readOf front)) (refused 30)
-startOf (refused k) front = refused 30
+startOf (arguments.Taken n) front = cond (eqb n bands) (planOf (readOf front)) (refused 30 0)
+startOf arguments.Refused front = refused 30 0
 
--- the page's number and values for `Start`
+-- in the rule book's numbers
 abbrev pub startAnswer : Start → Answer Plan
 startAnswer (Run rate format samples start) = accepted (record { rate = rate; bits = bitsOf format; samples = samples; start = start })
-startAnswer (Refused r) = refused (numberOf r)
+startAnswer (Refused r) = refused (numberOf r) 0

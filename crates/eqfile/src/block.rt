@@ -3,7 +3,8 @@ use crate::data::samples_from;
 use octave::block::block;
 use wave::Format;
 use wave::Stored;
-ghost use Rattle.eqfile.specs.Equalise.{Equalised, equaliseOf};
+ghost use Rattle.answers.specs.Checks.{Done};
+ghost use Rattle.eqfile.specs.Equalise.{Lent, equaliseOf};
 
 // The first `skipped` outputs are dropped. Answers how many bytes were stored.
 pub fn equalise(
@@ -16,7 +17,7 @@ pub fn equalise(
     skipped: usize,
     stored: &mut [u8],
 ) -> usize
-    ensures { λ r. ⌜ Equalised (equaliseOf (now (memory .entry)) (now (gains .entry)) format (now (bytes .entry)) (now (input .entry)) (now (output .entry)) skipped (now (stored .entry))) r (now (memory .exit)) (now (input .exit)) (now (output .exit)) (now (stored .exit)) ⌝ }
+    ensures { λ r. ⌜ Done (equaliseOf (now (memory .entry)) (now (gains .entry)) format (now (bytes .entry)) (now (input .entry)) (now (output .entry)) skipped (now (stored .entry))) r (record { memory = now (memory .exit); input = now (input .exit); output = now (output .exit); stored = now (stored .exit) }) ⌝ }
 {
     samples_from(bytes, format, input);
     block(memory, gains, input, output);

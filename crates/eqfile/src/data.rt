@@ -1,8 +1,7 @@
 // The data bytes: those that came with the front, and those of a block to its samples.
-use crate::small::least;
-use crate::small::left;
-use crate::small::size;
 use wave::Format;
+use whole::counts::least;
+use whole::counts::left;
 use whole::places::clear;
 ghost use mathlib.Core.Path.{_≡_};
 ghost use lib.ListN.{length};
@@ -36,9 +35,9 @@ pub fn carry(front: &[u8], from: usize, bytes: &mut [u8]) -> usize
 pub fn samples_from(bytes: &[u8], format: Format, samples: &mut [i32])
     ensures { λ _. ⌜ now (samples .exit) ≡ samplesFrom (length (now (samples .entry))) format (now (bytes .entry)) ⌝ }
 {
-    let bytes_each = size(format) as usize;
-    let whole = least(bytes.len() / bytes_each, samples.len());
-    let end = whole * bytes_each;
+    let size = wave::bytes_each(format) as usize;
+    let whole = least(bytes.len() / size, samples.len());
+    let end = whole * size;
     wave::bytes_to_samples(&bytes[..end], format, &mut samples[..whole]);
     clear(&mut samples[whole..]);
 }

@@ -1,7 +1,6 @@
 // The digits of an argument.
 ghost use mathlib.Core.Path.{_≡_};
 ghost use Rattle.eqfile.specs.Argument.{isDigit, upTo24, digitsOf};
-ghost use Rattle.eqfile.specs.Code.{digitsAnswer};
 
 pub(crate) enum Digits {
     // At most 24.
@@ -23,7 +22,7 @@ fn wide(b: u8) -> u16
 
 // The number of two digits, if it is at most 24.
 fn up_to_24(tens: u8, ones: u8) -> Digits
-    ensures { λ r. ⌜ digitsAnswer r ≡ upTo24 tens ones ⌝ }
+    ensures { λ r. ⌜ r ≡ upTo24 tens ones ⌝ }
 {
     if !is_digit(tens) {
         return Digits::Not;
@@ -40,7 +39,7 @@ fn up_to_24(tens: u8, ones: u8) -> Digits
 
 // One digit or two: one digit d is 0d.
 pub(crate) fn digits_of(s: &[u8]) -> Digits
-    ensures { λ r. ⌜ digitsAnswer r ≡ digitsOf (now (s .entry)) ⌝ }
+    ensures { λ r. ⌜ r ≡ digitsOf (now (s .entry)) ⌝ }
 {
     if s.len() == 1 {
         return up_to_24(b'0', s[0]);

@@ -5,8 +5,7 @@ use gain::Command;
 use gain::Gained;
 use gain::half_decibel;
 ghost use mathlib.Core.Path.{_≡_};
-ghost use Rattle.eqfile.specs.Argument.{halfDecibels, argumentOf, argumentAnswer};
-ghost use Rattle.eqfile.specs.Code.{placeAnswer};
+ghost use Rattle.eqfile.specs.Argument.{placeOf, argumentOf};
 
 // The place of a half decibel in the gain table: n half decibels stand at n + 24.
 pub(crate) enum Place {
@@ -22,7 +21,7 @@ pub enum Argument {
 }
 
 fn place_of(text: &[u8]) -> Place
-    ensures { λ r. ⌜ placeAnswer r ≡ halfDecibels (now (text .entry)) ⌝ }
+    ensures { λ r. ⌜ r ≡ placeOf (now (text .entry)) ⌝ }
 {
     if text.len() == 0 {
         return Place::Not;
@@ -41,7 +40,7 @@ fn place_of(text: &[u8]) -> Place
 
 // The gain of an argument's bytes.
 pub fn gain_of(text: &[u8]) -> Argument
-    ensures { λ r. ⌜ argumentAnswer r ≡ argumentOf (now (text .entry)) ⌝ }
+    ensures { λ r. ⌜ r ≡ argumentOf (now (text .entry)) ⌝ }
 {
     let Place::At(i) = place_of(text) else {
         return Argument::Refused;

@@ -6,7 +6,6 @@ mod digits;
 mod half;
 mod order;
 mod plan;
-mod small;
 mod taking;
 
 pub use block::equalise;
@@ -23,5 +22,6 @@ pub use plan::fed_in_all;
 pub use plan::next_turn;
 pub use plan::short;
 pub use taking::Arguments;
+pub use taking::BANDS;
 pub use taking::another;
-pub use taking::front_length;
+pub use taking::front_wanted;

@@ -1,11 +1,12 @@
 // How a run starts: the checks in their order.
-use crate::small::size;
 use crate::taking::Arguments;
+use crate::taking::BANDS;
+use answers::unit::LARGEST_DATA;
 use wave::Format;
 use wave::Reading;
+use wave::bytes_each;
 ghost use mathlib.Core.Path.{_≡_};
 ghost use Rattle.wave.specs.Walk.{readAnswer};
-ghost use Rattle.eqfile.specs.Arguments.{argumentsAnswer};
 ghost use Rattle.eqfile.specs.Start.{numberOf, planOf, startOf, startAnswer};
 
 pub enum Refusal {
@@ -47,8 +48,8 @@ pub fn number(refusal: Refusal) -> u64
     }
 }
 
-// The most samples whose three bytes each stay within 4,294,967,259.
-const MOST: u32 = 1431655753;
+// The most samples whose three bytes each a header can state.
+const MOST: u32 = LARGEST_DATA / 3;
 
 // An accepted header, if its samples can be written.
 fn plan(reading: Reading) -> Start
@@ -61,7 +62,7 @@ fn plan(reading: Reading) -> Start
             length,
             start,
         } => {
-            let samples = length / size(format);
+            let samples = length / bytes_each(format);
             if MOST < samples {
                 return Start::Refused(Refusal::TooLong);
             }
@@ -82,12 +83,12 @@ fn plan(reading: Reading) -> Start
 
 // The arguments, then the header, then the length to be written.
 pub fn begin(arguments: Arguments, front: &[u8]) -> Start
-    ensures { λ r. ⌜ startAnswer r ≡ startOf (argumentsAnswer arguments) (now (front .entry)) ⌝ }
+    ensures { λ r. ⌜ startAnswer r ≡ startOf arguments (now (front .entry)) ⌝ }
 {
     let Arguments::Taken(n) = arguments else {
         return Start::Refused(Refusal::Arguments);
     };
-    if n != 8 {
+    if n != BANDS {
         return Start::Refused(Refusal::Arguments);
     }
     plan(wave::read(front))

@@ -1,13 +1,14 @@
-// The plan of a run: the samples of the file and 1,143 zeros after them go through the equaliser in blocks of 4,096.
-use crate::small::least;
-use crate::small::left;
-use crate::small::size;
+// The plan of a run: the samples of the file and as many zeros after them as the delay go through the equaliser in full blocks.
+use answers::unit::BLOCK_LIMIT;
 use wave::Format;
+use wave::bytes_each;
+use whole::counts::least;
+use whole::counts::left;
 ghost use mathlib.Core.Path.{_≡_};
-ghost use Rattle.wave.specs.Block.{sizeOf};
-ghost use Rattle.eqfile.specs.Turn.{fedInAll, allRead, wantedOf, turnOf, Planned, shortOf};
+ghost use Rattle.wave.specs.Values.{sizeOf};
+ghost use Rattle.eqfile.specs.Turn.{fedInAll, allRead, wantedOf, turnOf, shortOf};
 
-// One block: how many samples are fed, how many bytes are to be read for them, how many outputs are dropped, and how many bytes the
+// A turn of the run, one block: how many samples are fed, how many bytes are to be read for them, how many outputs are dropped, and how many bytes the
 // others make.
 pub struct Turn {
     pub fed: usize,
@@ -16,18 +17,21 @@ pub struct Turn {
     pub written: usize,
 }
 
+// The delay of eight bands: sample n that is written is output n + LATE.
+const LATE: usize = 1143;
+
 // How many samples are fed in all.
 pub fn fed_in_all(samples: u32) -> usize
     ensures { λ r. ⌜ r ≡ fedInAll samples ⌝ }
 {
-    samples as usize + 1143
+    samples as usize + LATE
 }
 
 // Whether all bytes of the samples before `at` were read.
 fn all_read(format: Format, samples: u32, at: usize, read: usize) -> bool
     ensures { λ r. ⌜ r ≡ allRead (sizeOf format) samples at read ⌝ }
 {
-    read == size(format) as usize * least(at, samples as usize)
+    read == bytes_each(format) as usize * least(at, samples as usize)
 }
 
 // The bytes to read for the block at `at`: none once the data has ended.
@@ -37,15 +41,15 @@ fn wanted(format: Format, samples: u32, at: usize, read: usize, fed: usize) -> u
     if !all_read(format, samples, at, read) {
         return 0;
     }
-    size(format) as usize * least(fed, left(samples as usize, at))
+    bytes_each(format) as usize * least(fed, left(samples as usize, at))
 }
 
-// The block after `at` samples were fed and `read` bytes of data were read.
+// The turn after `at` samples were fed and `read` bytes of data were read.
 pub fn next_turn(format: Format, samples: u32, at: usize, read: usize) -> Turn
-    ensures { λ r. ⌜ Planned (turnOf (sizeOf format) samples at read) r ⌝ }
+    ensures { λ r. ⌜ r ≡ turnOf (sizeOf format) samples at read ⌝ }
 {
-    let fed = least(4096, left(fed_in_all(samples), at));
-    let skipped = least(fed, left(1143, at));
+    let fed = least(BLOCK_LIMIT, left(fed_in_all(samples), at));
+    let skipped = least(fed, left(LATE, at));
     Turn {
         fed,
         wanted: wanted(format, samples, at, read, fed),
@@ -58,5 +62,5 @@ pub fn next_turn(format: Format, samples: u32, at: usize, read: usize) -> Turn
 pub fn short(format: Format, samples: u32, read: usize) -> usize
     ensures { λ r. ⌜ r ≡ shortOf (sizeOf format) samples read ⌝ }
 {
-    left(size(format) as usize * samples as usize, read)
+    left(bytes_each(format) as usize * samples as usize, read)
 }

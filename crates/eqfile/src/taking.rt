@@ -1,8 +1,12 @@
 // The arguments, one after the other, lowest band first.
 use crate::half::Argument;
 use crate::half::gain_of;
+use answers::unit::FRONT_LENGTH;
 ghost use mathlib.Core.Path.{_≡_};
-ghost use Rattle.eqfile.specs.Arguments.{another, frontLength, argumentsAnswer};
+ghost use Rattle.eqfile.specs.Arguments.{another, frontWanted};
+
+// The program's band count: so many arguments.
+pub const BANDS: usize = 8;
 
 // The arguments so far.
 pub enum Arguments {
@@ -14,7 +18,7 @@ pub enum Arguments {
 
 // Takes one more argument: its gain goes to the next place of the gains.
 pub fn another(before: Arguments, text: &[u8], gains: &mut [i32]) -> Arguments
-    ensures { λ r. ⌜ (argumentsAnswer r, now (gains .exit)) ≡ another (argumentsAnswer before) (now (text .entry)) (now (gains .entry)) ⌝ }
+    ensures { λ r. ⌜ (r, now (gains .exit)) ≡ another before (now (text .entry)) (now (gains .entry)) ⌝ }
 {
     let Arguments::Taken(n) = before else {
         return Arguments::Refused;
@@ -29,12 +33,12 @@ pub fn another(before: Arguments, text: &[u8], gains: &mut [i32]) -> Arguments
     Arguments::Taken(n + 1)
 }
 
-// How many bytes the front is to have: nothing is read after refused arguments.
-pub fn front_length(arguments: Arguments) -> usize
-    ensures { λ r. ⌜ r ≡ frontLength (argumentsAnswer arguments) ⌝ }
+// How many bytes of the front are to be read: none after refused arguments.
+pub fn front_wanted(arguments: Arguments) -> usize
+    ensures { λ r. ⌜ r ≡ frontWanted arguments ⌝ }
 {
     let Arguments::Taken(n) = arguments else {
         return 0;
     };
-    if n == 8 { 4096 } else { 0 }
+    if n == BANDS { FRONT_LENGTH } else { 0 }
 }

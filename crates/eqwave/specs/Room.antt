@@ -1,11 +1,11 @@
--- What the buffers of a block have to hold.
+-- Bookkeeping of a private function: what the buffers of a turn have to hold.
 use mathlib.Core.List.{List}
 use Prim.Native.Nat.{ℕ, _≤_}
 use lib.ListN.{length}
 use lib.IntN.{ℤ}
-use Rattle.eqfile.specs.declared.plan.Turn as declared
+use Rattle.eqfile.specs.declared.plan.Turn.{Turn}
 
-pub record Room (turn : declared.Turn) (input output : List ℤ) (stored : List ℕ) : Type 0 where
+pub record Room (turn : Turn) (input output : List ℤ) (stored : List ℕ) : Type 0 where
   pub input-room : turn .fed ≤ length input
   pub output-room : turn .fed ≤ length output
   pub stored-room : turn .written ≤ length stored

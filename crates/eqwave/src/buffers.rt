@@ -1,23 +1,30 @@
-// The buffers of a run, each of one block of 4,096 samples.
+// The buffers of a run, each of one whole block.
+use answers::unit::BLOCK_LIMIT;
 ghost use mathlib.Core.Path.{_≡_};
+ghost use Prim.Native.Nat.{_*_};
 ghost use lib.ListN.{length};
+ghost use Rattle.answers.specs.Unit.{blockLimit};
 
-pub(crate) fn samples() -> [i32; 4096]
-    ensures { λ r. ⌜ 4096 ≡ length r ⌝ }
+const BLOCK_BYTES: usize = 3 * BLOCK_LIMIT;
+// The memory length of eight bands.
+const MEMORY: usize = 8066;
+
+pub(crate) fn samples() -> [i32; BLOCK_LIMIT]
+    ensures { λ r. ⌜ blockLimit ≡ length r ⌝ }
 {
-    [0; 4096]
+    [0; BLOCK_LIMIT]
 }
 
 // Three bytes for each sample.
-pub(crate) fn bytes() -> [u8; 12288]
-    ensures { λ r. ⌜ 12288 ≡ length r ⌝ }
+pub(crate) fn bytes() -> [u8; BLOCK_BYTES]
+    ensures { λ r. ⌜ 3 * blockLimit ≡ length r ⌝ }
 {
-    [0; 12288]
+    [0; BLOCK_BYTES]
 }
 
 // The line memory of eight bands.
-pub(crate) fn memory() -> [i32; 8066]
-    ensures { λ r. ⌜ 8066 ≡ length r ⌝ }
+pub(crate) fn memory() -> [i32; MEMORY]
+    ensures { λ r. ⌜ memoryLength bands ≡ length r ⌝ }
 {
-    [0; 8066]
+    [0; MEMORY]
 }

@@ -8,10 +8,10 @@ mod run;
 mod say;
 
 fn main() {
-    let mut gains = [0i32; 8];
+    let mut gains = [0i32; eqfile::BANDS];
     let mut front = io::buffer();
     let arguments = arguments::take(&mut gains);
-    let wanted = eqfile::front_length(arguments);
+    let wanted = eqfile::front_wanted(arguments);
     let got = io::read_full(libc::STDIN_FILENO, &mut front[..wanted]);
     begin(arguments, &front[..got], &gains);
 }

@@ -11,8 +11,9 @@ use lib.IntN.{pos}
 use lib.Ieee.{Float, nan, inf, fin, binary32, up, down, lt, ne, mul, fits}
 use lib.Ieee.Compare.{differs-from-itself}
 use lib.Ieee.Fits.{down-pos}
-use Rattle.gain.specs.Answer.{accepted, refused}
-use Rattle.gain.specs.Factor.{nearest, upToFour, factorOf, factorAnswer}
+use Rattle.answers.specs.Unit.{unity}
+use Rattle.gain.specs.Factor.{nearestUp, upToFour, timesGain, factorGain}
+use Rattle.gain.specs.declared.Gained.the-variants.{Gain, NotFactor}
 use Rattle.gain.proofs.Halves.{true-is-not-false}
 use Rattle.gain.proofs.Product.{exact, Cut, cut}
 
@@ -29,12 +30,12 @@ half-below (suc g) r a b e =
     rw odd (omega arith)
 
 -- the promise's rounding is to the nearest, a tie upward
-pub rounded : (a b : ℕ) → 0 < b → Rounded a b (nearest a b)
+pub rounded : (a b : ℕ) → 0 < b → Rounded a b (nearestUp a b)
 rounded a b p =
     let here : 0 < 2 * b = omega arith in
     let quotient = div-add-mod' (2 * a + b) (2 * b) in
     let rest = mod-lt (2 * a + b) here in
-    (half-below (nearest a b) ((2 * a + b) % (2 * b)) a b quotient, omega arith)
+    (half-below (nearestUp a b) ((2 * a + b) % (2 * b)) a b quotient, omega arith)
 
 -- no second number is nearest
 pub one-rounded : (a b g h : ℕ) → Rounded a b g → Rounded a b h → g ≡ h
@@ -103,24 +104,24 @@ steps-cut (fin s m e) f a =
     (steps-under (m * up e) (down e) (2 ^ 64) here l (lit< tt))
 
 -- a tie upward: half a step more, cut
-half-step : (v d : ℕ) → 0 < d → nearest (4096 * v) d ≡ (v * 2 ^ 13 / d + 1) / 2
+half-step : (v d : ℕ) → 0 < d → nearestUp (unity * v) d ≡ (v * 2 ^ 13 / d + 1) / 2
 half-step v d p =
-    let top : 2 * (4096 * v) + d ≡ v * 2 ^ 13 + d = omega arith in
+    let top : 2 * (unity * v) + d ≡ v * 2 ^ 13 + d = omega arith in
     ap (λ (x : ℕ). x / (2 * d)) top
     ∙ ap (λ (x : ℕ). (v * 2 ^ 13 + d) / x) (mul-comm 2 d)
     ∙ sym (div-div-eq-div-mul (v * 2 ^ 13 + d) d 2)
     ∙ ap (λ (x : ℕ). x / 2) (add-div-right (v * 2 ^ 13) p)
 
-pub accepted-steps : (x : Float) → Accepted x → factorAnswer x ≡ accepted (pos ((half-steps x + 1) / 2))
-unfolding factorAnswer factorOf half-steps
+pub accepted-steps : (x : Float) → Accepted x → factorGain x ≡ Gain (pos ((half-steps x + 1) / 2))
+unfolding factorGain timesGain half-steps
 accepted-steps nan a = absurd a
 accepted-steps (inf s) a = absurd a
 accepted-steps (fin s m e) a = rw (a, half-step (m * up e) (down e) (down-pos e))
 
 -- ---- refused
 
-pub refused-nan : (x : Float) → ne x x ≡ true → factorAnswer x ≡ refused 12
-unfolding factorAnswer
+pub refused-nan : (x : Float) → ne x x ≡ true → factorGain x ≡ NotFactor
+unfolding factorGain
 refused-nan x e = rw (differs-from-itself x (subst T (sym e) tt))
 
 not-zero : (v d : ℕ) → ltb 0 (v * 1 + 0 * 1 * d) ≡ true → v ≡ 0 → ⊥
@@ -129,8 +130,8 @@ not-zero v d e z = let l = ltb-true 0 (v * 1 + 0 * 1 * d) e in omega arith
 none-below : (v d : ℕ) → ltb (v * 1) (0 * 1 * d) ≡ true → ⊥
 none-below v d e = let l = ltb-true (v * 1) (0 * 1 * d) e in omega arith
 
-pub refused-below : (x : Float) → lt x (fin false 0 (pos 0)) ≡ true → factorAnswer x ≡ refused 12
-unfolding factorAnswer factorOf lt
+pub refused-below : (x : Float) → lt x (fin false 0 (pos 0)) ≡ true → factorGain x ≡ NotFactor
+unfolding factorGain timesGain lt
 refused-below nan e = refl
 refused-below (inf s) e = refl
 refused-below (fin true m k) e = rw (ne-eqb (m * up k) 0 (not-zero (m * up k) (down k) e))
@@ -139,8 +140,8 @@ refused-below (fin false m k) e = absurd (none-below (m * up k) (down k) e)
 past-four : (v d : ℕ) → ltb (1 * 2 ^ 2 * d) (v * 1) ≡ true → 4 * d < v
 past-four v d e = let l = ltb-true (1 * 2 ^ 2 * d) (v * 1) e in omega arith
 
-pub refused-above : (x : Float) → lt (fin false 1 (pos 2)) x ≡ true → factorAnswer x ≡ refused 12
-unfolding factorAnswer factorOf lt
+pub refused-above : (x : Float) → lt (fin false 1 (pos 2)) x ≡ true → factorGain x ≡ NotFactor
+unfolding factorGain timesGain lt
 refused-above nan e = refl
 refused-above (inf s) e = refl
 refused-above (fin true m k) e = absurd (true-is-not-false (sym e))

@@ -11,8 +11,8 @@ use lib.IntN.{ℤ, pos, natAbs}
 use lib.Ieee.{Float, nan, inf, fin, up, down, level, eq}
 use lib.Ieee.Fits.{down-pos}
 use Rattle.gain.specs.Table.{entry}
-use Rattle.gain.specs.Answer.{accepted, refused}
-use Rattle.gain.specs.Decibels.{signed, Half, halfDecibels, decibelsAnswer}
+use Rattle.gain.specs.Decibels.{signed, Half, halvesGain, decibelsGain}
+use Rattle.gain.specs.declared.Gained.the-variants.{Gain, NotHalfDecibels}
 
 -- ---- tests
 
@@ -119,8 +119,8 @@ equal-halves (fin s m d) (fin t k c) n g h =
 -- ---- the promise: accepted exactly if a whole n from -24 to 24 exists with value n/2
 
 -- such an n, and the gain is its entry
-pub accepted-half : (x : Float) (n : ℤ) → natAbs n ≤ 24 → Half x n → decibelsAnswer x ≡ accepted (pos (entry n))
-unfolding decibelsAnswer halfDecibels
+pub accepted-half : (x : Float) (n : ℤ) → natAbs n ≤ 24 → Half x n → decibelsGain x ≡ Gain (pos (entry n))
+unfolding decibelsGain halvesGain
 accepted-half nan n l h = absurd h
 accepted-half (inf s) n l h = absurd h
 accepted-half (fin s m e) n l h =
@@ -130,8 +130,8 @@ accepted-half (fin s m e) n l h =
     rw (q, r, le-leb (natAbs n) 24 l, h .1)
 
 -- what the promise's test finds is such an n
-whole-half : (s : Bool) (t d : ℕ) → (eqb (t % d) 0 && leb (t / d) 24) ≡ true
-    → (t ≡ natAbs (signed s (t / d)) * d) × (signed s (natAbs (signed s (t / d))) ≡ signed s (t / d)) × (natAbs (signed s (t / d)) ≤ 24)
+whole-half : (s : Bool) (t d : ℕ) → (eqb (t % d) 0 && leb (t / d) 24) ≡ true →
+    (t ≡ natAbs (signed s (t / d)) * d) × (signed s (natAbs (signed s (t / d))) ≡ signed s (t / d)) × (natAbs (signed s (t / d)) ≤ 24)
 whole-half s t d e =
     let p = both-true (eqb (t % d) 0) (leb (t / d) 24) e in
     let r = eqb-true (t % d) 0 (p .0) in
@@ -139,14 +139,14 @@ whole-half s t d e =
     let sum = div-add-mod' t d in
     rw signed-size (omega arith, refl, l)
 
--- no such n, and the answer is refusal 11
-pub refused-half : (x : Float) → ((n : ℤ) → natAbs n ≤ 24 → Half x n → ⊥) → decibelsAnswer x ≡ refused 11
-unfolding decibelsAnswer halfDecibels
+-- no such n, and the answer is that it is none
+pub refused-half : (x : Float) → ((n : ℤ) → natAbs n ≤ 24 → Half x n → ⊥) → decibelsGain x ≡ NotHalfDecibels
+unfolding decibelsGain halvesGain
 refused-half nan none = refl
 refused-half (inf s) none = refl
 refused-half (fin s m e) none = go (eqb (2 * (m * up e) % down e) 0 && leb (2 * (m * up e) / down e) 24) refl
   where
-    go : (b : Bool) → (eqb (2 * (m * up e) % down e) 0 && leb (2 * (m * up e) / down e) 24) ≡ b
-        → cond b (accepted (pos (entry (signed s (2 * (m * up e) / down e))))) (refused 11) ≡ refused 11
+    go : (b : Bool) → (eqb (2 * (m * up e) % down e) 0 && leb (2 * (m * up e) / down e) 24) ≡ b →
+        cond b (Gain (pos (entry (signed s (2 * (m * up e) / down e))))) NotHalfDecibels ≡ NotHalfDecibels
     go true h = let w = whole-half s (2 * (m * up e)) (down e) h in absurd (none (signed s (2 * (m * up e) / down e)) (w .2) (w .0, w .1))
     go false h = refl

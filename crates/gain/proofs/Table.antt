@@ -11,35 +11,35 @@ use lib.IntN.{ℤ, pos, negsuc, negℤ, natAbs, _-ℤ_}
 use lib.Ieee.Fits.{and-l, and-r}
 use lib.ListN.{getD}
 use lib.Signed.{ltZ, _<ℤ_}
-use Rattle.gain.specs.Table.{gains, entry, Nearest}
+use Rattle.gain.specs.Table.{gains, entry, FortiethRule}
 use Rattle.gain.proofs.Every.{at, every, at-half}
 
 -- ---- the rule
 
-nearest-test : ℤ → ℕ → Bool
-nearest-test (pos n) g = leb ((2 * g - 1) ^ 40) (8192 ^ 40 * 10 ^ n) && ltb (8192 ^ 40 * 10 ^ n) ((2 * g + 1) ^ 40)
-nearest-test (negsuc k) g = leb ((2 * g - 1) ^ 40 * 10 ^ suc k) (8192 ^ 40) && ltb (8192 ^ 40) ((2 * g + 1) ^ 40 * 10 ^ suc k)
+rule-test : ℤ → ℕ → Bool
+rule-test (pos n) g = leb ((2 * g - 1) ^ 40) (8192 ^ 40 * 10 ^ n) && ltb (8192 ^ 40 * 10 ^ n) ((2 * g + 1) ^ 40)
+rule-test (negsuc k) g = leb ((2 * g - 1) ^ 40 * 10 ^ suc k) (8192 ^ 40) && ltb (8192 ^ 40) ((2 * g + 1) ^ 40 * 10 ^ suc k)
 
 both : (a b c : ℕ) → T (leb a b && ltb b c) → (a ≤ b) × (b < c)
 both a b c t = (leb→le a b (and-l (leb a b) (ltb b c) t), ltb→lt b c (and-r (leb a b) (ltb b c) t))
 
-nearest-right : (n : ℤ) (g : ℕ) → T (nearest-test n g) → Nearest n g
-unfolding nearest-test Nearest
-nearest-right (pos n) g t = both ((2 * g - 1) ^ 40) (8192 ^ 40 * 10 ^ n) ((2 * g + 1) ^ 40) t
-nearest-right (negsuc k) g t = both ((2 * g - 1) ^ 40 * 10 ^ suc k) (8192 ^ 40) ((2 * g + 1) ^ 40 * 10 ^ suc k) t
+rule-right : (n : ℤ) (g : ℕ) → T (rule-test n g) → FortiethRule n g
+unfolding rule-test FortiethRule
+rule-right (pos n) g t = both ((2 * g - 1) ^ 40) (8192 ^ 40 * 10 ^ n) ((2 * g + 1) ^ 40) t
+rule-right (negsuc k) g t = both ((2 * g - 1) ^ 40 * 10 ^ suc k) (8192 ^ 40) ((2 * g + 1) ^ 40 * 10 ^ suc k) t
 
 entry-test : ℤ → Bool
-entry-test n = nearest-test n (entry n)
+entry-test n = rule-test n (entry n)
 
 -- the one computed test
 every-entry : T (every entry-test)
-unfolding entry-test nearest-test entry
+unfolding entry-test rule-test entry
 every-entry = tt
 
 -- the fortieth-power rule, at every n from -24 to 24
-pub rule : (n : ℤ) → natAbs n ≤ 24 → Nearest n (entry n)
+pub rule : (n : ℤ) → natAbs n ≤ 24 → FortiethRule n (entry n)
 unfolding entry-test
-rule n h = nearest-right n (entry n) (at-half entry-test every-entry n h)
+rule n h = rule-right n (entry n) (at-half entry-test every-entry n h)
 
 -- no second entry meets the rule
 odd-step : (g h : ℕ) → g < h → 2 * g + 1 ≤ 2 * h - 1
@@ -48,8 +48,8 @@ odd-step g h l = omega arith
 smaller : (g h : ℕ) → (2 * h - 1) ^ 40 < (2 * g + 1) ^ 40 → h ≤ g
 smaller g h p = le-of-suc-le-suc (lt-of-not-le (λ (l : g < h). not-le-of-lt p (pow-le-pow-left (odd-step g h l) 40)))
 
-pub one-entry : (n : ℤ) (g h : ℕ) → Nearest n g → Nearest n h → g ≡ h
-unfolding Nearest
+pub one-entry : (n : ℤ) (g h : ℕ) → FortiethRule n g → FortiethRule n h → g ≡ h
+unfolding FortiethRule
 one-entry (pos n) g h p q = le-antisymm (smaller h g (lt-of-le-of-lt (p .0) (q .1))) (smaller g h (lt-of-le-of-lt (q .0) (p .1)))
 one-entry (negsuc k) g h p q =
     let t = 10 ^ suc k in

@@ -1,16 +1,11 @@
--- What the gain command answers, as document 01 numbers it.
-use Prim.Native.Nat.{ℕ}
+-- What the gain command answers, in the numbers of the rule book.
 use lib.IntN.{ℤ}
+use Rattle.answers.specs.Answer.{Answer, accepted, refused}
 use Rattle.gain.specs.declared.Gained.{Gained}
 use Rattle.gain.specs.declared.Gained.the-variants.{Gain, NotHalfDecibels, NotFactor}
 
--- Refusal numbers: a gain, or "only the number, marked as a refusal"
-pub data Answer : Type 0 where
-  accepted : ℤ → Answer
-  refused : ℕ → Answer
-
--- Refusal numbers: "11 decibels; 12 factor (NaN and infinities too)"
-abbrev pub answerOf : Gained → Answer
+-- the gain; 11 for decibels and 12 for a factor that has none
+abbrev pub answerOf : Gained → Answer ℤ
 answerOf (Gain g) = accepted g
-answerOf NotHalfDecibels = refused 11
-answerOf NotFactor = refused 12
+answerOf NotHalfDecibels = refused 11 0
+answerOf NotFactor = refused 12 0

@@ -1,14 +1,14 @@
--- The promise of the gain command, document 01, Gain commands: its one answer, for every command.
+-- The promise of the gain command: its one answer, for every command.
 use lib.IntN.{pos}
-use Rattle.gain.specs.Answer.{Answer, accepted}
-use Rattle.gain.specs.Decibels.{decibelsAnswer}
-use Rattle.gain.specs.Factor.{factorAnswer}
+use Rattle.gain.specs.Decibels.{decibelsGain}
+use Rattle.gain.specs.Factor.{factorGain}
 use Rattle.gain.specs.declared.Command.{Command}
 use Rattle.gain.specs.declared.Command.the-variants.{Decibels, Factor, Off}
+use Rattle.gain.specs.declared.Gained.{Gained}
+use Rattle.gain.specs.declared.Gained.the-variants.{Gain}
 
--- "A command is decibels as f32, a factor as f32, or off." "Off: gain 0."
-unfoldable pub answerTo : Command → Answer
-unfolding decibelsAnswer factorAnswer
-answerTo (Decibels x) = decibelsAnswer x
-answerTo (Factor x) = factorAnswer x
-answerTo Off = accepted (pos 0)
+-- the gain of decibels, of a factor, or of off, which is 0
+abbrev pub commandGain : Command → Gained
+commandGain (Decibels x) = decibelsGain x
+commandGain (Factor x) = factorGain x
+commandGain Off = Gain (pos 0)

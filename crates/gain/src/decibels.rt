@@ -3,8 +3,7 @@ use crate::Gained;
 ghost use mathlib.Core.Path.{_≡_};
 ghost use Prim.Native.Nat.{_<_};
 ghost use lib.IntN.{pos, _-ℤ_};
-ghost use Rattle.gain.specs.Answer.{answerOf};
-ghost use Rattle.gain.specs.Decibels.{decibelsAnswer, Half};
+ghost use Rattle.gain.specs.Decibels.{decibelsGain, halfDecibel};
 ghost use Rattle.gain.specs.Table.{entry};
 
 // Entry i is the nearest whole number to 4,096·10^((i - 24)/40).
@@ -69,15 +68,14 @@ fn gain_at(i: usize) -> i32
 
 // The half decibel of entry i, exactly: -12.0, -11.5, .. 12.0.
 pub fn half_decibel(i: u16) -> f32
-    requires { ⌜ i < 49 ⌝ }
-    ensures { λ r. ⌜ Half r (pos i -ℤ pos 24) ⌝ }
+    ensures { λ r. ⌜ r ≡ halfDecibel i ⌝ }
 {
     (i as f32 - 24.0) * 0.5
 }
 
 // The gain of x decibels. Equality of floats takes -0.0 for 0, and a NaN for nothing.
 pub(crate) fn decibels(x: f32) -> Gained
-    ensures { λ r. ⌜ answerOf r ≡ decibelsAnswer x ⌝ }
+    ensures { λ r. ⌜ r ≡ decibelsGain x ⌝ }
 {
     for i in 0..49 {
         if x == half_decibel(i) {

@@ -1,13 +1,12 @@
 // A factor to a gain: 4,096 times as large, to the nearest whole number, a tie upward.
 use crate::Gained;
 ghost use mathlib.Core.Path.{_≡_};
-ghost use Rattle.gain.specs.Answer.{answerOf};
-ghost use Rattle.gain.specs.Factor.{factorAnswer};
+ghost use Rattle.gain.specs.Factor.{factorGain};
 
 // A float times a power of two is exact, so the whole part of 8,192·x counts the half steps of gain in 4,096·x. Half of one
 // more, cut, is then the nearest gain, a tie upward. Only a NaN differs from itself.
 pub(crate) fn factor(x: f32) -> Gained
-    ensures { λ r. ⌜ answerOf r ≡ factorAnswer x ⌝ }
+    ensures { λ r. ⌜ r ≡ factorGain x ⌝ }
 {
     if x != x {
         return Gained::NotFactor;

@@ -1,7 +1,6 @@
 // Gain commands: decibels, a factor, or off, each answered by a gain or a refusal.
 ghost use mathlib.Core.Path.{_≡_};
-ghost use Rattle.gain.specs.Answer.{answerOf};
-ghost use Rattle.gain.specs.Promise.{answerTo};
+ghost use Rattle.gain.specs.Promise.{commandGain};
 
 mod decibels;
 mod factor;
@@ -23,7 +22,7 @@ pub enum Gained {
 
 // The one gain of a command: from the table for decibels, the nearest for a factor, 0 for off.
 pub fn gain(command: Command) -> Gained
-    ensures { λ r. ⌜ answerOf r ≡ answerTo command ⌝ }
+    ensures { λ r. ⌜ r ≡ commandGain command ⌝ }
 {
     match command {
         Command::Decibels(x) => decibels::decibels(x),

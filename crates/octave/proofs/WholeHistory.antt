@@ -64,7 +64,7 @@ pub record Continued (M : ℕ) (x : Signal) (n : ℕ) (cs : List Call) (p : Play
   pub state : State M x (n + length (joined cs)) (p .memory)
 
 -- an accepted call's outputs are joined
-played-accepted : (m : List ℤ) (c : Call) (cs : List Call) {k : ℕ} → blockAnswer (called m c .result) ≡ accepted k →
+pub played-accepted : (m : List ℤ) (c : Call) (cs : List Call) {k : ℕ} → blockAnswer (called m c .result) ≡ accepted k →
     played m (c ∷ cs) .output ≡ called m c .lent .1 ++ played (afterCall m c) cs .output
 unfolding played
 played-accepted m c cs a =

@@ -6,33 +6,12 @@ use borrow.Author.Needs.{needs}
 use Rattle.eqfile.proofs.data.carry.Statement.{statement}
 use Rattle.eqfile.proofs.data.carry.Tie as tie
 
-left-requires : tie.Need-left-requires
-left-requires c κs = search needs
-
-least-requires : tie.Need-least-requires
-least-requires c κs = search needs
-
 returns : tie.Need-returns
 returns c =
     let least = c .before in
     let left = least .before in
     let a = left .before .before .before .args in
     nothing-there (now (a .front)) (now (a .bytes)) (a .from) (left .left .result) (least .least .result) (left .left .ensures) (least .least .ensures) (c .if1 .taken)
-
-add-end : tie.Need-add-end
-add-end c = search needs
-
-sub-copy : tie.Need-sub-copy
-sub-copy c = search needs
-
-part-copy-start : tie.Need-part-copy-start
-part-copy-start c = search needs
-
-part-copy-end : tie.Need-part-copy-end
-part-copy-end c = search needs
-
-slice-relend-prefix-copy : tie.Need-slice-relend-prefix-copy
-slice-relend-prefix-copy c = search needs
 
 slice-aggregate-copy : tie.Need-slice-aggregate-copy
 slice-aggregate-copy c =
@@ -48,9 +27,6 @@ copy-requires c κs =
     let a = left .before .before .before .args in
     parts-alike (now (a .front)) (now (a .bytes)) (a .from) (left .left .result) (least .least .result) (left .left .ensures) (least .least .ensures)
 
-same-length : tie.Need-same-length
-same-length c = search needs
-
 returns-2 : tie.Need-returns-2
 returns-2 c =
     let copy = c .before .before in
@@ -62,16 +38,5 @@ returns-2 c =
 pub carry-spec : {M : Type 1} → statement M
 carry-spec =
     tie.close
-    (tie.spec
-    left-requires
-    least-requires
-    returns
-    add-end
-    sub-copy
-    part-copy-start
-    part-copy-end
-    slice-relend-prefix-copy
-    slice-aggregate-copy
-    copy-requires
-    same-length
-    returns-2)
+    (tie.spec (λ c κs. search needs) (λ c κs. search needs) returns (λ c. search needs) (λ c. search needs) (λ c. search needs) (λ c. search needs)
+    (λ c. search needs) slice-aggregate-copy copy-requires (λ c. search needs) returns-2)

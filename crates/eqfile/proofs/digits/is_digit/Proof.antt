@@ -1,5 +1,5 @@
 -- `digits::is_digit` meets its contract. Assumes nothing.
-use Rattle.eqfile.proofs.Texts.{below-digits, from-digits}
+use Rattle.eqfile.proofs.ArgumentText.{below-digits, from-digits}
 use Rattle.eqfile.proofs.digits.is_digit.Statement.{statement}
 use Rattle.eqfile.proofs.digits.is_digit.Tie as tie
 

@@ -3,9 +3,8 @@ use mathlib.Core.Path.{_≡_, sym, ap, _∙_}
 use mathlib.Core.Bool.{true}
 use native.Mathlib.Omega.{arith}
 use borrow.Author.Tests.{not-true, not-false}
-use Rattle.wave.specs.Answer.{accepted}
 use Rattle.eqfile.specs.Argument.{isDigit}
-use Rattle.eqfile.proofs.Texts.{digit, tens-wrong, ones-wrong, small, large}
+use Rattle.eqfile.proofs.ArgumentText.{digit, tens-wrong, ones-wrong, small, large}
 use borrow.Author.Needs.{needs}
 use Rattle.eqfile.proofs.digits.up_to_24.Statement.{statement}
 use Rattle.eqfile.proofs.digits.up_to_24.Tie as tie
@@ -17,14 +16,8 @@ tens c = sym (c .before .is-digit .ensures) ∙ not-false (c .before .is-digit .
 ones : (c : tie.Else2) → isDigit (c .before .before .before .before .args .ones) ≡ true
 ones c = sym (c .before .is-digit2 .ensures) ∙ not-false (c .before .is-digit2 .result) (c .if2 .left)
 
-is-digit-requires : tie.Need-is-digit-requires
-is-digit-requires c κs = search needs
-
 returns : tie.Need-returns
 returns c = tens-wrong (c .before .before .args .tens) (c .before .before .args .ones) (sym (c .before .is-digit .ensures) ∙ not-true (c .before .is-digit .result) (c .if1 .taken))
-
-is-digit-requires-2 : tie.Need-is-digit-requires-2
-is-digit-requires-2 c κs = search needs
 
 returns-2 : tie.Need-returns-2
 returns-2 c =
@@ -43,14 +36,11 @@ sub-n-2 c = omega (arith, digit (c .before .before .before .before .args .ones) 
 add-n : tie.Need-add-n
 add-n c = omega (arith, digit (c .before .before .before .before .args .tens) (tens (c .before .before)), digit (c .before .before .before .before .args .ones) (ones c))
 
-wide-requires : tie.Need-wide-requires
-wide-requires c κs = search needs
-
 returns-3 : tie.Need-returns-3
 returns-3 c =
     let k = c .before .before in
     let a = k .before .before .before .before .args in
-    ap accepted (c .wide .ensures) ∙ small (a .tens) (a .ones) (tens (k .before .before)) (ones k) (c .before .if3 .taken)
+    small (a .tens) (a .ones) (tens (k .before .before)) (c .wide .result) (ones k) (c .wide .ensures) (c .before .if3 .taken)
 
 returns-4 : tie.Need-returns-4
 returns-4 c =
@@ -61,15 +51,4 @@ returns-4 c =
 pub up-to-24-spec : {M : Type 1} → statement M
 up-to-24-spec =
     tie.close
-    (tie.spec
-    is-digit-requires
-    returns
-    is-digit-requires-2
-    returns-2
-    sub-n
-    mul-n
-    sub-n-2
-    add-n
-    wide-requires
-    returns-3
-    returns-4)
+    (tie.spec (λ c κs. search needs) returns (λ c κs. search needs) returns-2 sub-n mul-n sub-n-2 add-n (λ c κs. search needs) returns-3 returns-4)

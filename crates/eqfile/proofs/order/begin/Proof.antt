@@ -2,35 +2,22 @@
 use mathlib.Core.Path.{sym, ap, _∙_}
 use denote.Ref.{now}
 use Rattle.eqfile.specs.declared.taking.Arguments.{Arguments}
-use Rattle.eqfile.specs.Arguments.{argumentsAnswer}
 use Rattle.eqfile.specs.Start.{planOf, startOf, startAnswer}
-use Rattle.eqfile.proofs.Orders.{arguments-refused, not-eight, eight}
+use Rattle.eqfile.proofs.StartOrder.{arguments-refused, not-eight, eight}
 use borrow.Author.Needs.{needs}
 use Rattle.eqfile.proofs.order.begin.Statement.{statement}
 use Rattle.eqfile.proofs.order.begin.Tie as tie
 
-enum-known-arguments : tie.Need-enum-known-arguments
-enum-known-arguments c = search needs
-
-enum-told : tie.Need-enum-told
-enum-told c = search needs
-
 returns : tie.Need-returns
 returns c =
     let a = c .before .before .before .args in
-    arguments-refused 30 (now (a .front)) ∙ sym (ap (λ (x : Arguments). startOf (argumentsAnswer x) (now (a .front))) (c .enum-told .given .1))
+    arguments-refused (now (a .front)) ∙ sym (ap (λ (x : Arguments). startOf x (now (a .front))) (c .enum-told .given .1))
 
 returns-2 : tie.Need-returns-2
 returns-2 c =
     let n = c .before .before in
     let a = n .before .before .before .args in
-    not-eight (n .arguments .given .0 .0) (now (a .front)) (c .if1 .taken) ∙ sym (ap (λ (x : Arguments). startOf (argumentsAnswer x) (now (a .front))) (n .arguments .given .1))
-
-read-requires : tie.Need-read-requires
-read-requires c κs = search needs
-
-plan-requires : tie.Need-plan-requires
-plan-requires c κs = search needs
+    not-eight (n .arguments .given .0 .0) (now (a .front)) (c .if1 .taken) ∙ sym (ap (λ (x : Arguments). startOf x (now (a .front))) (n .arguments .given .1))
 
 returns-3 : tie.Need-returns-3
 returns-3 c =
@@ -38,16 +25,9 @@ returns-3 c =
     let n = read .before .before .before in
     let a = n .before .before .before .args in
     eight (n .arguments .given .0 .0) (now (a .front)) (startAnswer (c .plan .result)) (read .before .if1 .left) (c .plan .ensures ∙ ap planOf (read .read .ensures))
-    ∙ sym (ap (λ (x : Arguments). startOf (argumentsAnswer x) (now (a .front))) (n .arguments .given .1))
+    ∙ sym (ap (λ (x : Arguments). startOf x (now (a .front))) (n .arguments .given .1))
 
 pub begin-spec : {M : Type 1} → statement M
 begin-spec =
     tie.close
-    (tie.spec
-    enum-known-arguments
-    enum-told
-    returns
-    returns-2
-    read-requires
-    plan-requires
-    returns-3)
+    (tie.spec (λ c. search needs) (λ c. search needs) returns returns-2 (λ c κs. search needs) (λ c κs. search needs) returns-3)

@@ -4,47 +4,23 @@ use native.Mathlib.Omega.{arith}
 use Rattle.wave.specs.Walk.{readAnswer}
 use Rattle.wave.specs.declared.reader.Reading.{Reading}
 use Rattle.eqfile.specs.Start.{planOf}
-use Rattle.eqfile.proofs.Orders.{reader-refuses, too-long, to-be-written}
+use Rattle.eqfile.proofs.StartOrder.{reader-refuses, too-long, to-be-written}
 use borrow.Author.Needs.{needs}
 use Rattle.eqfile.proofs.order.plan.Statement.{statement}
 use Rattle.eqfile.proofs.order.plan.Tie as tie
-
-enum-known-reading : tie.Need-enum-known-reading
-enum-known-reading c = search needs
-
-size-requires : tie.Need-size-requires
-size-requires c κs = search needs
-
-div-samples : tie.Need-div-samples
-div-samples c = search needs
 
 returns : tie.Need-returns
 returns c =
     let block = c .before in
     let read = block .before .before .reading .given in
-    too-long (read .0 .0) (read .0 .1 .0) (read .0 .1 .1 .0) (read .0 .1 .1 .1 .0) (block .size .result) (block .size .ensures .0) (omega arith)
+    too-long (read .0 .0) (read .0 .1 .0) (read .0 .1 .1 .0) (read .0 .1 .1 .1 .0) (block .bytes-each .result) (block .bytes-each .ensures .0) (omega arith)
     ∙ sym (ap (λ (x : Reading). planOf (readAnswer x)) (read .1))
-
-enum-told : tie.Need-enum-told
-enum-told c = search needs
-
-enum-told-2 : tie.Need-enum-told-2
-enum-told-2 c = search needs
-
-enum-told-3 : tie.Need-enum-told-3
-enum-told-3 c = search needs
-
-enum-told-4 : tie.Need-enum-told-4
-enum-told-4 c = search needs
-
-enum-told-5 : tie.Need-enum-told-5
-enum-told-5 c = search needs
 
 returns-2 : tie.Need-returns-2
 returns-2 c =
     let block = c .before in
     let read = block .before .before .reading .given in
-    to-be-written (read .0 .0) (read .0 .1 .0) (read .0 .1 .1 .0) (read .0 .1 .1 .1 .0) (block .size .result) (block .size .ensures .0) (omega arith)
+    to-be-written (read .0 .0) (read .0 .1 .0) (read .0 .1 .1 .0) (read .0 .1 .1 .1 .0) (block .bytes-each .result) (block .bytes-each .ensures .0) (omega arith)
     ∙ sym (ap (λ (x : Reading). planOf (readAnswer x)) (read .1))
 
 returns-3 : tie.Need-returns-3
@@ -65,19 +41,5 @@ returns-7 c = reader-refuses 25 ∙ sym (ap (λ (x : Reading). planOf (readAnswe
 pub plan-spec : {M : Type 1} → statement M
 plan-spec =
     tie.close
-    (tie.spec
-    enum-known-reading
-    size-requires
-    div-samples
-    returns
-    enum-told
-    enum-told-2
-    enum-told-3
-    enum-told-4
-    enum-told-5
-    returns-2
-    returns-3
-    returns-4
-    returns-5
-    returns-6
-    returns-7)
+    (tie.spec (λ c. search needs) (λ c κs. search needs) (λ c. search needs) returns (λ c. search needs) (λ c. search needs) (λ c. search needs)
+    (λ c. search needs) (λ c. search needs) returns-2 returns-3 returns-4 returns-5 returns-6 returns-7)

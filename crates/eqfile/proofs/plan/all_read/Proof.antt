@@ -1,24 +1,17 @@
 -- `plan::all_read` meets its contract. Assumes nothing.
 use native.Mathlib.Omega.{arith}
-use Rattle.eqfile.proofs.Plans.{product-fits}
+use Rattle.eqfile.proofs.Turns.{product-fits}
 use borrow.Author.Needs.{needs}
 use Rattle.eqfile.proofs.plan.all_read.Statement.{statement}
 use Rattle.eqfile.proofs.plan.all_read.Tie as tie
 
-size-requires : tie.Need-size-requires
-size-requires c κs = search needs
-
-cast-result : tie.Need-cast-result
-cast-result c = search needs
-
-least-requires : tie.Need-least-requires
-least-requires c κs = search needs
-
 mul-result : tie.Need-mul-result
-mul-result c = product-fits (c .before .size .result) (c .least .result) (c .before .size .ensures .2) (omega arith)
+mul-result c = product-fits (c .before .bytes-each .result) (c .least .result) (c .before .bytes-each .ensures .2) (omega arith)
 
 returns : tie.Need-returns
-returns c = rw (c .before .size .ensures .0, c .least .ensures)
+returns c = rw (c .before .bytes-each .ensures .0, c .least .ensures)
 
 pub all-read-spec : {M : Type 1} → statement M
-all-read-spec = tie.close (tie.spec size-requires cast-result least-requires mul-result returns)
+all-read-spec =
+    tie.close
+    (tie.spec (λ c κs. search needs) (λ c. search needs) (λ c κs. search needs) mul-result returns)

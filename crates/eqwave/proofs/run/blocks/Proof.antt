@@ -4,8 +4,8 @@ use Prim.Native.Nat.{_-_}
 use native.Mathlib.Omega.{arith}
 use lib.ListN.{length-take}
 use lib.Seq.{length-take-le}
-use Rattle.eqfile.proofs.Plans.{Bounds, bounds}
-use Rattle.eqwave.proofs.Going.{Going, Buffers, in-front, block-read, room}
+use Rattle.eqfile.proofs.Turns.{Bounds, bounds}
+use Rattle.eqwave.proofs.BetweenBlocks.{Going, Buffers, in-front, block-read, room}
 use Rattle.eqwave.proofs.run.blocks.Statement.{statement}
 use Rattle.eqwave.proofs.run.blocks.Tie as tie
 
@@ -25,21 +25,6 @@ planned c =
     let a = l .before .before .before .before .before .before .before .args in
     bounds (a .format) (a .samples) (l .loop .at) (l .loop .read) (c .next-turn .result) (c .next-turn .ensures)
 
-bytes-requires : tie.Need-bytes-requires Inv-loop μ-loop
-bytes-requires c κs = tt
-
-samples-requires : tie.Need-samples-requires Inv-loop μ-loop
-samples-requires c κs = tt
-
-samples-requires-2 : tie.Need-samples-requires-2 Inv-loop μ-loop
-samples-requires-2 c κs = tt
-
-bytes-requires-2 : tie.Need-bytes-requires-2 Inv-loop μ-loop
-bytes-requires-2 c κs = tt
-
-fed-in-all-requires : tie.Need-fed-in-all-requires Inv-loop μ-loop
-fed-in-all-requires c κs = tt
-
 loop-holds : tie.Need-loop-holds Inv-loop μ-loop
 loop-holds c =
     let stored = c .before in
@@ -57,9 +42,6 @@ loop-holds c =
       record { input-long = sym (input .samples .ensures); output-long = sym (output .samples2 .ensures); stored-long = sym (stored .bytes2 .ensures) },
     )
 
-next-turn-requires : tie.Need-next-turn-requires Inv-loop μ-loop
-next-turn-requires c κs = tt
-
 array-borrow-prefix-bytes : tie.Need-array-borrow-prefix-bytes Inv-loop μ-loop
 array-borrow-prefix-bytes c = let b = planned c in omega (arith, c .before .before .loop .inv .0 .long)
 
@@ -67,9 +49,6 @@ slice-aggregate-fetch : tie.Need-slice-aggregate-fetch Inv-loop μ-loop
 slice-aggregate-fetch c =
     let b = planned (c .before) in
     sym (length-take-le _ (c .before .before .before .loop .bytes) (omega (arith, c .before .before .before .loop .inv .0 .long)))
-
-fetch-requires : tie.Need-fetch-requires Inv-loop μ-loop
-fetch-requires c κs = tt
 
 array-share-prefix-bytes : tie.Need-array-share-prefix-bytes Inv-loop μ-loop
 array-share-prefix-bytes c = in-front _ (c .before .fetch .last .1 .1 .0) _ (c .before .fetch .ensures)
@@ -92,16 +71,10 @@ put-requires c κs =
     let l = next .before .before in
     room (l .before .before .before .before .before .before .before .args .samples) (l .loop .at) (next .next-turn .result) (l .loop .input) (l .loop .output) (l .loop .stored) (planned next) (l .loop .inv .1)
 
-output-failed-requires : tie.Need-output-failed-requires Inv-loop μ-loop
-output-failed-requires c κs = tt
-
 same-length : tie.Need-same-length Inv-loop μ-loop
 same-length c =
     let put = c .before .before .before .before .before .before in
     put .put .kept .1 .1 .1 .1 .0 ∙ put .before .before .before .before .before .before .before .before .before .before .before .loop .inv .0 .alike
-
-returns : tie.Need-returns Inv-loop μ-loop
-returns c = tt
 
 add-read : tie.Need-add-read Inv-loop μ-loop
 add-read c =
@@ -140,48 +113,12 @@ loop-again c =
       },
     )
 
-short-requires : tie.Need-short-requires Inv-loop μ-loop
-short-requires c κs = tt
-
-missing-requires : tie.Need-missing-requires Inv-loop μ-loop
-missing-requires c κs = tt
-
 same-length-2 : tie.Need-same-length-2 Inv-loop μ-loop
 same-length-2 c = c .before .before .before .loop .inv .0 .alike
-
-returns-2 : tie.Need-returns-2 Inv-loop μ-loop
-returns-2 c = tt
 
 pub blocks-spec : {M : Type 1} → statement M
 blocks-spec =
     tie.close
-    (tie.spec
-    Inv-loop
-    μ-loop
-    bytes-requires
-    samples-requires
-    samples-requires-2
-    bytes-requires-2
-    fed-in-all-requires
-    loop-holds
-    next-turn-requires
-    array-borrow-prefix-bytes
-    slice-aggregate-fetch
-    fetch-requires
-    array-share-prefix-bytes
-    slice-aggregate-put
-    slice-aggregate-put-2
-    slice-aggregate-put-3
-    slice-aggregate-put-4
-    put-requires
-    output-failed-requires
-    same-length
-    returns
-    add-read
-    add-at
-    loop-less
-    loop-again
-    short-requires
-    missing-requires
-    same-length-2
-    returns-2)
+    (tie.spec Inv-loop μ-loop (λ c κs. tt) (λ c κs. tt) (λ c κs. tt) (λ c κs. tt) (λ c κs. tt) loop-holds (λ c κs. tt) array-borrow-prefix-bytes
+    slice-aggregate-fetch (λ c κs. tt) array-share-prefix-bytes slice-aggregate-put slice-aggregate-put-2 slice-aggregate-put-3 slice-aggregate-put-4
+    put-requires (λ c κs. tt) same-length (λ c. tt) add-read add-at loop-less loop-again (λ c κs. tt) (λ c κs. tt) same-length-2 (λ c. tt))

@@ -4,7 +4,7 @@ use native.Mathlib.Omega.{arith}
 use denote.Ref.{now}
 use lib.ListN.{length}
 use Rattle.eqfile.proofs.Copies.{carry-within}
-use Rattle.eqwave.proofs.Going.{both-within}
+use Rattle.eqwave.proofs.BetweenBlocks.{both-within}
 use borrow.Author.Needs.{needs}
 use Rattle.eqwave.proofs.run.fetch.Statement.{statement}
 use Rattle.eqwave.proofs.run.fetch.Tie as tie
@@ -15,26 +15,11 @@ had c =
     let a = c .before .before .before .before .args in
     omega (arith, carry-within (now (a .front)) (now (a .bytes)) (c .carry .last .1 .1 .0) (a .from) (c .carry .result) (c .carry .ensures), c .carry .kept .1 .1 .0)
 
-carry-requires : tie.Need-carry-requires
-carry-requires c κs = search needs
-
 sub-read-full : tie.Need-sub-read-full
 sub-read-full c = had (c .before .before)
 
 part-read-full-start : tie.Need-part-read-full-start
 part-read-full-start c = let h = had (c .before .before) in search needs
-
-part-read-full-end : tie.Need-part-read-full-end
-part-read-full-end c = search needs
-
-read-full-requires : tie.Need-read-full-requires
-read-full-requires c κs = search needs
-
-add-result : tie.Need-add-result
-add-result c = search needs
-
-same-length : tie.Need-same-length
-same-length c = search needs
 
 returns : tie.Need-returns
 returns c =
@@ -45,12 +30,5 @@ returns c =
 pub fetch-spec : {M : Type 1} → statement M
 fetch-spec =
     tie.close
-    (tie.spec
-    carry-requires
-    sub-read-full
-    part-read-full-start
-    part-read-full-end
-    read-full-requires
-    add-result
-    same-length
-    returns)
+    (tie.spec (λ c κs. search needs) sub-read-full part-read-full-start (λ c. search needs) (λ c κs. search needs) (λ c. search needs)
+    (λ c. search needs) returns)

@@ -10,9 +10,10 @@ use lib.IntN.{ℤ, pos, natAbs, _+ℤ_, _-ℤ_}
 use lib.Ieee.{Float, eq}
 use mir.Facts.{toZ-ofZ}
 use Rattle.gain.specs.Table.{entry}
-use Rattle.gain.specs.Answer.{accepted, refused}
-use Rattle.gain.specs.Decibels.{Half, decibelsAnswer}
+use Rattle.gain.specs.Decibels.{Half, decibelsGain, halfDecibel}
+use Rattle.gain.specs.declared.Gained.the-variants.{Gain, NotHalfDecibels}
 use Rattle.gain.proofs.Every.{place-below, place-back, place-range}
+use Rattle.gain.proofs.HalfDecibels.{half-at}
 use Rattle.gain.proofs.Halves.{true-is-not-false, half-of-equal, equal-halves, accepted-half, refused-half}
 use Rattle.gain.proofs.decibels.decibels.Statement.{statement}
 use Rattle.gain.proofs.decibels.decibels.Tie as tie
@@ -25,44 +26,29 @@ abbrev μ-loop : tie.MeasureT-loop
 
 -- ---- what the loop finds, and what it rules out
 
-found : (x h : Float) (i : ℕ) → i < 49 → Half h (pos i -ℤ pos 24) → eq x h ≡ true → decibelsAnswer x ≡ accepted (pos (entry (pos i -ℤ pos 24)))
-found x h i l half e = accepted-half x (pos i -ℤ pos 24) (place-range i l) (half-of-equal x h (pos i -ℤ pos 24) e half)
+found : (x h : Float) (i : ℕ) → i < 49 → h ≡ halfDecibel i → eq x h ≡ true → decibelsGain x ≡ Gain (pos (entry (pos i -ℤ pos 24)))
+found x h i l half e = accepted-half x (pos i -ℤ pos 24) (place-range i l) (half-of-equal x h (pos i -ℤ pos 24) e (half-at h i half l))
 
-passed : (x h : Float) (n : ℤ) → Half h n → eq x h ≡ false → Half x n → ⊥
-passed x h n half e mine = true-is-not-false (sym (equal-halves x h n mine half) ∙ e)
+passed : (x h : Float) (i : ℕ) → i < 49 → h ≡ halfDecibel i → eq x h ≡ false → Half x (pos i -ℤ pos 24) → ⊥
+passed x h i l half e mine = true-is-not-false (sym (equal-halves x h (pos i -ℤ pos 24) mine (half-at h i half l)) ∙ e)
 
-none : (x : Float) → ((k : ℕ) → k < 49 → Half x (pos k -ℤ pos 24) → ⊥) → decibelsAnswer x ≡ refused 11
+none : (x : Float) → ((k : ℕ) → k < 49 → Half x (pos k -ℤ pos 24) → ⊥) → decibelsGain x ≡ NotHalfDecibels
 none x no-place =
     refused-half x (λ (n : ℤ) l half. no-place (natAbs (n +ℤ pos 24)) (place-below n l) (subst (λ (k : ℤ). Half x k) (sym (place-back n l)) half))
 
 -- ---- the needs
 
-loop-holds : tie.Need-loop-holds Inv-loop μ-loop
-loop-holds c = search needs
-
-half-decibel-requires : tie.Need-half-decibel-requires Inv-loop μ-loop
-half-decibel-requires c κs = omega arith
-
-cast-gain-at : tie.Need-cast-gain-at Inv-loop μ-loop
-cast-gain-at c = omega arith
-
-gain-at-requires : tie.Need-gain-at-requires Inv-loop μ-loop
-gain-at-requires c κs = omega arith
-
 returns : tie.Need-returns Inv-loop μ-loop
 returns c =
     let turn = c .before .before in
-    ap accepted (toZ-ofZ (record { sfits = c .gain-at .ok }) ∙ c .gain-at .ensures)
-    ∙ sym (found (turn .before .before .before .args .x) (turn .half-decibel .result) (turn .before .before .loop .i) (omega arith) (turn .half-decibel .ensures) (c .before .if1 .taken))
-
-add-i : tie.Need-add-i Inv-loop μ-loop
-add-i c = omega arith
-
-loop-less : tie.Need-loop-less Inv-loop μ-loop
-loop-less c = omega arith
+    ap Gain (toZ-ofZ (record { sfits = c .gain-at .ok }) ∙ c .gain-at .ensures) ∙
+    sym (found (turn .before .before .before .args .x) (turn .half-decibel .result) (turn .before .before .loop .i) (omega arith) (turn .half-decibel .ensures) (c .before .if1 .taken))
 
 loop-again : tie.Need-loop-again Inv-loop μ-loop
-loop-again c = (omega arith, below-more _ _ (c .before .before .before .loop .inv .1) (passed _ _ _ (c .before .half-decibel .ensures) (c .if1 .left)))
+loop-again c = (
+  omega arith,
+  below-more _ _ (c .before .before .before .loop .inv .1) (passed _ _ _ (omega arith) (c .before .half-decibel .ensures) (c .if1 .left)),
+)
 
 returns-2 : tie.Need-returns-2 Inv-loop μ-loop
 returns-2 c = sym (none (c .before .before .args .x) (λ (k : ℕ) l. c .before .loop .inv .1 k (omega arith)))
@@ -73,12 +59,12 @@ decibels-spec =
     (tie.spec
     Inv-loop
     μ-loop
-    loop-holds
-    half-decibel-requires
-    cast-gain-at
-    gain-at-requires
+    (λ c. search needs)
+    (λ c κs. search needs)
+    (λ c. omega arith)
+    (λ c κs. omega arith)
     returns
-    add-i
-    loop-less
+    (λ c. omega arith)
+    (λ c. omega arith)
     loop-again
     returns-2)

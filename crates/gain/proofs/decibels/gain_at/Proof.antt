@@ -9,15 +9,9 @@ use Rattle.gain.proofs.Table.{entry-at, getD-positives}
 use Rattle.gain.proofs.decibels.gain_at.Statement.{statement}
 use Rattle.gain.proofs.decibels.gain_at.Tie as tie
 
-mul-result : tie.Need-mul-result
-mul-result c = search needs
-
-array-copy-out-result : tie.Need-array-copy-out-result
-array-copy-out-result c = search needs
-
 returns : tie.Need-returns
 unfolding gains
 returns c = toZ-ofZ (record { sfits = c .result .given }) ∙ getD-positives gains (c .before .args .i) ∙ ap pos (sym (entry-at (c .before .args .i) (c .before .pre)))
 
 pub gain-at-spec : {M : Type 1} → statement M
-gain-at-spec = tie.close (tie.spec mul-result array-copy-out-result returns)
+gain-at-spec = tie.close (tie.spec (λ c. search needs) (λ c. search needs) returns)

@@ -10,16 +10,16 @@ use native.Mathlib.Decide.{decLt}
 use borrow.Author.Tests.{eqb-true}
 use lib.ListN.{length, length-append}
 use lib.IntN.{ℤ}
-use Rattle.wave.specs.Block.{sizeOf}
+use Rattle.wave.specs.Values.{sizeOf}
 use Rattle.wave.specs.declared.format.Format.{Format}
 use Rattle.octave.specs.History.{Call, joined}
 use Rattle.eqfile.specs.Data.{samplesFrom}
 use Rattle.eqfile.specs.Turn.{late, fedInAll, allRead, wantedOf, turnOf}
-use Rattle.eqfile.specs.Program.{Turned, Turns, handed}
-use Rattle.eqfile.proofs.Plans.{wanted-few}
+use Rattle.eqfile.specs.Program.{Piece, ByPlan, handed}
+use Rattle.eqfile.proofs.Turns.{wanted-few}
 use Rattle.eqfile.proofs.NeverMore.{step}
 use Rattle.eqfile.proofs.Written.{followed}
-use Rattle.eqfile.proofs.Joins.{more-zeros, no-bytes, from-append}
+use Rattle.eqfile.proofs.SamplesInPieces.{more-zeros, no-bytes, from-append}
 
 -- ---- one turn
 
@@ -64,8 +64,8 @@ pub no-length : {A : Type 0} (s : List A) → length s ≡ 0 → s ≡ []
 no-length [] e = refl
 no-length (a ∷ s) e = absurd (omega arith)
 
-over-nothing : (format : Format) (samples at read : ℕ) (us : List Turned) → Over (sizeOf format) samples at read → Turns format samples at read us → handed us ≡ []
-unfolding Turns handed turnOf
+over-nothing : (format : Format) (samples at read : ℕ) (us : List Piece) → Over (sizeOf format) samples at read → ByPlan format samples at read us → handed us ≡ []
+unfolding ByPlan handed turnOf
 over-nothing format samples at read [] o h = refl
 over-nothing format samples at read (u ∷ us) o h =
     let fed = turnOf (sizeOf format) samples at read .fed in
@@ -74,9 +74,9 @@ over-nothing format samples at read (u ∷ us) o h =
     ap₂ _++_ (no-length (u .read) z) (over-nothing format samples (at + fed) (read + length (u .read)) us o' (h .1))
 
 -- never more bytes are read than those of the file's samples
-pub handed-within : (format : Format) (samples at read : ℕ) (us : List Turned) → read ≤ sizeOf format * min at samples → Turns format samples at read us →
+pub handed-within : (format : Format) (samples at read : ℕ) (us : List Piece) → read ≤ sizeOf format * min at samples → ByPlan format samples at read us →
     read + length (handed us) ≤ sizeOf format * samples
-unfolding Turns handed turnOf
+unfolding ByPlan handed turnOf
 handed-within format samples at read [] r h =
     let l : sizeOf format * min at samples ≤ sizeOf format * samples = mul-le-mul-left (sizeOf format) (omega arith) in
     omega arith
@@ -86,13 +86,13 @@ handed-within format samples at read (u ∷ us) r h =
     omega (arith, length-append (u .read) (handed us))
 
 -- the turns as block calls
-unfoldable pub calls : List ℤ → Format → List Turned → List Call
+unfoldable pub calls : List ℤ → Format → List Piece → List Call
 calls gains format [] = []
 calls gains format (u ∷ us) = record { gains = gains; input = samplesFrom (length (u .input)) format (u .read); before = u .output } ∷ calls gains format us
 
-rest-joined : (gains : List ℤ) (format : Format) (samples at read : ℕ) (us : List Turned) → read ≤ sizeOf format * min at samples → Turns format samples at read us →
+rest-joined : (gains : List ℤ) (format : Format) (samples at read : ℕ) (us : List Piece) → read ≤ sizeOf format * min at samples → ByPlan format samples at read us →
     joined (calls gains format us) ≡ samplesFrom (fedInAll samples - at) format (handed us)
-unfolding Turns handed turnOf calls joined
+unfolding ByPlan handed turnOf calls joined
 rest-joined gains format samples at read [] r h =
     let z : fedInAll samples - at ≡ 0 = omega arith in
     sym (ap (λ (n : ℕ). samplesFrom n format []) z ∙ no-bytes 0 format)
@@ -109,7 +109,7 @@ rest-joined gains format samples at read (u ∷ us) r h =
     ap (λ (n : ℕ). samplesFrom n format (u .read ++ handed us)) all
 
 -- the calls' samples are those of the bytes read, and the zeros that follow
-pub calls-join : (gains : List ℤ) (format : Format) (samples : ℕ) (us : List Turned) → Turns format samples 0 0 us →
+pub calls-join : (gains : List ℤ) (format : Format) (samples : ℕ) (us : List Piece) → ByPlan format samples 0 0 us →
     joined (calls gains format us) ≡ followed (samplesFrom samples format (handed us))
 calls-join gains format samples us h =
     rest-joined gains format samples 0 0 us (omega arith) h ∙ ap (λ (n : ℕ). samplesFrom n format (handed us)) (sub-zero (fedInAll samples)) ∙

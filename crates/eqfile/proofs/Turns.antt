@@ -1,16 +1,24 @@
--- The plan of a run. Assumes nothing.
-use mathlib.Core.Path.{_≡_, sym, ap, ap₂, _∙_}
+-- The turns of the plan. Assumes nothing.
+use mathlib.Core.Path.{_≡_, refl, sym, ap, ap₂, _∙_}
 use mathlib.Core.Bool.{Bool, true, false, cond}
 use Prim.Native.Nat.{ℕ, _-_, _*_, _≤_, _<_, min}
 use native.Mathlib.Nat.{mul-le-mul-right, mul-le-mul-left}
 use native.Mathlib.Omega.{arith}
 use mir.Val.{Fits}
 use mir.Syntax.{w64}
-use Rattle.wave.specs.Block.{sizeOf}
+use Rattle.wave.specs.Values.{sizeOf}
 use Rattle.wave.specs.declared.format.Format.{Format}
 use Rattle.wave.specs.declared.format.Format.the-variants.{Bits16, Bits24}
-use Rattle.eqfile.specs.Turn.{late, longest, fedInAll, allRead, wantedOf, turnOf, Planned}
-use Rattle.eqfile.specs.declared.plan.Turn as declared
+use Rattle.answers.specs.Unit.{blockLimit}
+use Rattle.tree.specs.Prototype.{published}
+use Rattle.tree.specs.Tree.{delay}
+use Rattle.eqfile.specs.declared.plan.Turn.{Turn}
+use Rattle.eqfile.specs.Arguments.{bands}
+use Rattle.eqfile.specs.Turn.{late, fedInAll, allRead, wantedOf, turnOf}
+
+-- output n + `late` is sample n: the program waits for the delay of its bands
+pub late-is-the-delay : late ≡ delay published bands
+late-is-the-delay = refl
 
 pub few-bytes : (format : Format) → (2 ≤ sizeOf format) × (sizeOf format ≤ 3)
 few-bytes Bits16 = (omega arith, omega arith)
@@ -32,29 +40,25 @@ module _ (size samples at read fed : ℕ) where
   unfolding wantedOf
   not-ended s m left is h e f = ap₂ _*_ is (f ∙ ap (λ (k : ℕ). min fed k) e) ∙ ap (λ (b : Bool). cond b (size * min fed (samples - at)) 0) (sym h)
 
-pub turn-is : (size samples at read all left fed early skipped wanted : ℕ) → all ≡ fedInAll samples → left ≡ all - at → fed ≡ min longest left →
-    early ≡ 1143 - at → skipped ≡ min fed early → wanted ≡ wantedOf size samples at read fed →
-    Planned (turnOf size samples at read) (record { fed = fed; wanted = wanted; skipped = skipped; written = 3 * (fed - skipped) })
+pub turn-is : (size samples at read all left fed early skipped wanted : ℕ) → all ≡ fedInAll samples → left ≡ all - at → fed ≡ min blockLimit left →
+    early ≡ late - at → skipped ≡ min fed early → wanted ≡ wantedOf size samples at read fed →
+    _≡_ {A = Turn} (record { fed = fed; wanted = wanted; skipped = skipped; written = 3 * (fed - skipped) }) (turnOf size samples at read)
 unfolding turnOf
 turn-is size samples at read all left fed early skipped wanted a l f e s w =
-    let fed-is : fed ≡ min longest (fedInAll samples - at) = f ∙ ap (λ (k : ℕ). min longest k) (l ∙ ap (λ (k : ℕ). k - at) a) in
-    let skipped-is : skipped ≡ min (min longest (fedInAll samples - at)) (late - at) = s ∙ ap₂ min fed-is e in
-    record {
-      fed-is = fed-is;
-      wanted-is = w ∙ ap (λ (k : ℕ). wantedOf size samples at read k) fed-is;
-      skipped-is = skipped-is;
-      written-is = ap₂ (λ (u v : ℕ). 3 * (u - v)) fed-is skipped-is;
-    }
+    let fed-is : fed ≡ min blockLimit (fedInAll samples - at) = f ∙ ap (λ (k : ℕ). min blockLimit k) (l ∙ ap (λ (k : ℕ). k - at) a) in
+    let skipped-is : skipped ≡ min (min blockLimit (fedInAll samples - at)) (late - at) = s ∙ ap₂ min fed-is e in
+    let wanted-is : wanted ≡ wantedOf size samples at read (min blockLimit (fedInAll samples - at)) = w ∙ ap (λ (k : ℕ). wantedOf size samples at read k) fed-is in
+    λ i. record { fed = fed-is i; wanted = wanted-is i; skipped = skipped-is i; written = 3 * (fed-is i - skipped-is i) }
 
 -- ---- what a caller's buffers have to hold
 
-pub record Bounds (samples at : ℕ) (t : declared.Turn) : Type 0 where
-  pub fed-most : t .fed ≤ longest
+pub record Bounds (samples at : ℕ) (t : Turn) : Type 0 where
+  pub fed-most : t .fed ≤ blockLimit
   pub fed-left : t .fed ≤ fedInAll samples - at
   pub fed-some : at < fedInAll samples → 0 < t .fed
   pub wanted-most : t .wanted ≤ 3 * t .fed
   pub skipped-most : t .skipped ≤ t .fed
-  pub written-most : t .written ≤ 3 * longest
+  pub written-most : t .written ≤ 3 * blockLimit
 
 -- no more bytes than those of the block
 pub wanted-few : (size samples at read fed : ℕ) → wantedOf size samples at read fed ≤ size * fed
@@ -65,14 +69,10 @@ wanted-few size samples at read fed = by (allRead size samples at read)
     by true = mul-le-mul-left size (omega arith)
     by false = omega arith
 
-pub bounds : (format : Format) (samples at read : ℕ) (t : declared.Turn) → Planned (turnOf (sizeOf format) samples at read) t → Bounds samples at t
+turn-bounds : (format : Format) (samples at read : ℕ) → Bounds samples at (turnOf (sizeOf format) samples at read)
 unfolding turnOf
-bounds format samples at read t p =
-    let fed = min longest (fedInAll samples - at) in
-    let f : t .fed ≡ fed = p .fed-is in
-    let w : t .wanted ≡ wantedOf (sizeOf format) samples at read fed = p .wanted-is in
-    let s : t .skipped ≡ min fed (late - at) = p .skipped-is in
-    let o : t .written ≡ 3 * (fed - min fed (late - at)) = p .written-is in
+turn-bounds format samples at read =
+    let fed = min blockLimit (fedInAll samples - at) in
     record {
       fed-most = omega arith;
       fed-left = omega arith;
@@ -81,3 +81,6 @@ bounds format samples at read t p =
       skipped-most = omega arith;
       written-most = omega arith;
     }
+
+pub bounds : (format : Format) (samples at read : ℕ) (t : Turn) → t ≡ turnOf (sizeOf format) samples at read → Bounds samples at t
+bounds format samples at read t p = rw p (turn-bounds format samples at read)

@@ -9,13 +9,15 @@ use lib.ListN.{length, take, drop, replicate, length-take, length-drop, length-a
 use lib.Seq.{take-nil, take-at, drop-at, take-take, length-take-le}
 use lib.IntN.{ℤ, pos}
 use borrow.Rule.Slice.PartMut.{putMid}
-use Rattle.wave.specs.Answer.{Answer}
-use Rattle.wave.specs.Block.{sizeOf, samplesOf, blockFrom}
+use Rattle.answers.specs.Checks.{Done, decide}
+use Rattle.wave.specs.Samples.{samplesOf, blockFrom}
+use Rattle.wave.specs.Values.{sizeOf}
 use Rattle.wave.specs.Sample.{sampleIn}
 use Rattle.wave.specs.declared.format.Format.{Format}
-use Rattle.wave.proofs.Blocks.{length-samples}
+use Rattle.wave.specs.declared.samples.Taken.{Taken}
+use Rattle.wave.proofs.Taking.{length-samples}
 use Rattle.eqfile.specs.Data.{samplesFrom}
-use Rattle.eqfile.proofs.Plans.{few-bytes}
+use Rattle.eqfile.proofs.Turns.{few-bytes}
 
 drop-take : {A : Type 0} (m n : ℕ) (l : List A) → drop m (take (m + n) l) ≡ take n (drop m l)
 drop-take zero n l = ap (λ (k : ℕ). take k l) (zero-add n)
@@ -52,14 +54,14 @@ module _ (format : Format) (s : List ℕ) (samples : List ℤ) (size k : ℕ) (i
   samples-long = length-take-le k samples part-fits
 
   -- the codec takes them
-  pub taken : (a : Answer ℕ) (last : List ℤ) → (a, last) ≡ blockFrom (take (k * size) s) format (take k samples) → last ≡ samplesOf k format s
-  unfolding blockFrom
-  taken a last e =
+  pub taken : (r : Taken) (last : List ℤ) → Done (blockFrom (take (k * size) s) format (take k samples)) r last → last ≡ samplesOf k format s
+  unfolding blockFrom decide
+  taken r last d =
       let rest : length (take (k * size) s) % sizeOf format ≡ 0 = ap₂ _%_ bytes-long (sym is) ∙ mul-mod-left k size in
       let count : length (take k samples) ≡ length (take (k * size) s) / sizeOf format =
       samples-long ∙ sym (ap₂ _/_ bytes-long (sym is) ∙ mul-div-cancel k some) in
-      let p = rw (eq-eqb (length (take (k * size) s) % sizeOf format) 0 rest, eq-eqb (length (take k samples)) (length (take (k * size) s) / sizeOf format) count) at e in
-      ap (λ (x : Answer ℕ × List ℤ). x .1) p ∙ ap (λ (n : ℕ). samplesOf n format (take (k * size) s)) samples-long ∙
+      let p = rw (eq-eqb (length (take (k * size) s) % sizeOf format) 0 rest, eq-eqb (length (take k samples)) (length (take (k * size) s) / sizeOf format) count) at (d .lent-is) in
+      p ∙ ap (λ (n : ℕ). samplesOf n format (take (k * size) s)) samples-long ∙
       ap (λ (z : ℕ). samplesOf k format (take (k * z) s)) is ∙ samples-in-front k format s
 
   -- the code's list: the samples taken, and cleared places behind them

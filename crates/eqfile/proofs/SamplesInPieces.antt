@@ -8,10 +8,11 @@ use native.Mathlib.Omega.{arith}
 use lib.ListN.{length, take, drop, replicate, length-append, length-drop, length-replicate, replicate-append-replicate}
 use lib.Seq.{take-append-le, drop-append-le}
 use lib.IntN.{ℤ, pos}
-use Rattle.wave.specs.Block.{sizeOf, samplesOf}
+use Rattle.wave.specs.Samples.{samplesOf}
+use Rattle.wave.specs.Values.{sizeOf}
 use Rattle.wave.specs.Sample.{sampleIn}
 use Rattle.wave.specs.declared.format.Format.{Format}
-use Rattle.wave.proofs.Blocks.{length-samples}
+use Rattle.wave.proofs.Taking.{length-samples}
 use Rattle.wave.specs.declared.format.Format.the-variants.{Bits16, Bits24}
 use Rattle.eqfile.specs.Data.{samplesFrom}
 

@@ -8,25 +8,28 @@ use borrow.Author.Tests.{eq-eqb, le-leb, le-ltb}
 use lib.ListN.{length, take, drop, length-drop}
 use lib.Seq.{take-all}
 use lib.IntN.{ℤ, pos}
-use Rattle.answers.specs.Unit.{leastSample, mostSample}
+use Rattle.answers.specs.Checks.{Outcome, decide}
+use Rattle.answers.specs.Range.{allWithin}
+use Rattle.answers.specs.Unit.{leastSample, mostSample, blockLimit, largestGain}
 use Rattle.tree.specs.Prototype.{published}
 use Rattle.tree.specs.Signal.{gainOf}
-use Rattle.octave.specs.declared.memory.Kept.the-variants.{Bands}
-use Rattle.octave.specs.Range.{allWithin}
-use Rattle.octave.specs.Answer as octave
-use Rattle.octave.specs.Memory.{lineLength, prepared, keptOf}
-use Rattle.octave.specs.Step.{Region}
+use Rattle.octave.specs.declared.block.Blocked.{Blocked}
+use Rattle.octave.specs.declared.block.Blocked.the-variants.{Written}
+use Rattle.octave.specs.Memory.{lineLength, prepared, accepts}
+use Rattle.octave.specs.Helpers.{Region}
 use Rattle.octave.specs.Run.{next, answered, run}
-use Rattle.octave.specs.Block.{Blocking, accept, blockOf}
-use Rattle.octave.proofs.Keeping.{kept-bands}
+use Rattle.octave.specs.Block.{equalised, blockOf}
+use Rattle.octave.proofs.Memories.{accepts-is}
 use Rattle.octave.proofs.Running.{next-inside, region-moved}
 use Rattle.octave.proofs.Samples.{step-length}
 use Rattle.octave.proofs.Calls.{prepared-holds}
-use Rattle.wave.specs.Answer.{Answer, accepted}
-use Rattle.wave.specs.Block.{allInRange, bytesOf, blockTo}
-use Rattle.wave.proofs.Blocks.{length-bytes, to-all}
+use Rattle.wave.specs.Samples.{bytesOf, blockTo}
+use Rattle.wave.specs.declared.samples.Stored.{Stored}
+use Rattle.wave.proofs.Storing.{length-bytes}
+use Rattle.wave.proofs.Codec.{to-all}
+use Rattle.eqfile.specs.Arguments.{bands}
 use Rattle.eqfile.specs.Equalise.{countOf, storedOf}
-use Rattle.eqfile.proofs.InRange.{run-in-range, in-range-drop}
+use Rattle.eqfile.proofs.InRange.{allInRange, run-in-range, in-range-drop}
 
 -- ---- the samples through the lines
 
@@ -59,39 +62,48 @@ prepared-ready =
     record { at = s .at; lines = s .lines; memory-is = s .memory-is; region = s .region }
 
 -- what a block of the program leaves
-pub record Done (input : List ℤ) (b : Blocking) : Type 0 where
-  pub accepts : b .answer ≡ octave.accepted (length input)
-  pub ready : Ready (b .memory)
-  pub long : length (b .output) ≡ length input
-  pub in-range : allInRange (b .output) ≡ true
+pub record BlockDone (input : List ℤ) (b : Outcome Blocked (List ℤ × List ℤ)) : Type 0 where
+  pub accepts : b .result ≡ Written (length input)
+  pub ready : Ready (b .lent .0)
+  pub long : length (b .lent .1) ≡ length input
+  pub in-range : allInRange (b .lent .1) ≡ true
 
 pub record Allowed (gains : List ℤ) : Type 0 where
-  pub eight : length gains ≡ 8
-  pub each : allWithin (pos 0) (pos 16384) gains ≡ true
+  pub eight : length gains ≡ bands
+  pub each : allWithin (pos 0) (pos largestGain) gains ≡ true
 
-pub block-done : (m gains input before : List ℤ) → Ready m → Allowed gains → length before ≡ length input → length input ≤ 4096 →
-    allWithin leastSample mostSample input ≡ true → Done input (blockOf m gains input before)
+pub block-done : (m gains input before : List ℤ) → Ready m → Allowed gains → length before ≡ length input → length input ≤ blockLimit → allInRange input ≡ true →
+    BlockDone input (blockOf m gains input before)
+unfolding decide
 block-done m gains input before s g alike short range =
-    let size = lineLength 8 in
-    let r = run published 8 size (gainOf gains) (s .lines) (s .at) input in
-    subst (λ (q : List ℤ). Done input (blockOf q gains input before)) (sym (s .memory-is))
-    (subst (Done input) (sym is)
+    let size = lineLength bands in
+    let r = run published bands size (gainOf gains) (s .lines) (s .at) input in
+    subst (λ (q : List ℤ). BlockDone input (blockOf q gains input before)) (sym (s .memory-is))
+    (subst (BlockDone input) (sym is)
     (record {
       accepts = refl;
       ready =
-          record { at = r .position; lines = r .places; memory-is = refl; region = run-region 8 size (gainOf gains) input (s .lines) (s .at) (s .region) };
-      long = run-long 8 size (gainOf gains) input (s .lines) (s .at);
-      in-range = run-in-range 8 size (gainOf gains) input (s .lines) (s .at);
+          record { at = r .position; lines = r .places; memory-is = refl; region = run-region bands size (gainOf gains) input (s .lines) (s .at) (s .region) };
+      long = run-long bands size (gainOf gains) input (s .lines) (s .at);
+      in-range = run-in-range bands size (gainOf gains) input (s .lines) (s .at);
     }))
   where
     m' : List ℤ
-    m' = pos 8 ∷ pos (s .at) ∷ s .lines
+    m' = pos bands ∷ pos (s .at) ∷ s .lines
 
-    kept : keptOf m' ≡ Bands 8
-    kept = sym (kept-bands m' (λ e. omega arith) refl (omega (arith, s .region .whole)) (le-ltb (s .at) 0 (omega arith)) (s .region .inside))
+    kept : accepts m' ≡ true
+    kept = accepts-is m' refl (omega (arith, s .region .whole)) (le-ltb (s .at) 0 (omega arith)) (s .region .inside)
 
-    is : blockOf m' gains input before ≡ accept 8 m' gains input
-    is = rw (kept, eq-eqb (length gains) 8 (g .eight), g .each, eq-eqb (length before) (length input) alike, le-leb (length input) 4096 short, range)
+    is : blockOf m' gains input before ≡ record { result = Written (length input); lent = equalised m' gains input }
+    is =
+        rw (
+          kept,
+          eq-eqb (length gains) bands (g .eight),
+          g .each,
+          eq-eqb (length before) (length input) alike,
+          le-leb (length input) blockLimit short,
+          range,
+        )
 
 -- ---- the bytes stored
 
@@ -101,6 +113,6 @@ pub stored-all : (o : List ℤ) (skipped : ℕ) (stored : List ℕ) → skipped 
 stored-all o skipped stored h l e =
     let rest = drop skipped o in
     let fits : length stored ≡ 3 * length rest = l ∙ ap (λ (n : ℕ). 3 * n) (sym (length-drop skipped o)) in
-    let done : (accepted (length stored), bytesOf rest) ≡ blockTo rest stored = to-all rest stored fits (length stored) (bytesOf rest) (in-range-drop skipped o e) refl refl in
     rw (le-ltb (length o) skipped h)
-    (ap (λ (x : Answer ℕ × List ℕ). take (countOf (x .0)) (x .1)) (sym done) ∙ take-all (length stored) (bytesOf rest) (omega (arith, length-bytes rest)))
+    (ap (λ (x : Outcome Stored (List ℕ)). take (countOf (x .result)) (x .lent)) (to-all rest stored fits (in-range-drop skipped o e)) ∙
+    take-all (length stored) (bytesOf rest) (omega (arith, length-bytes rest)))

@@ -11,13 +11,14 @@ use borrow.Author.Tests.{eq-eqb}
 use lib.ListN.{length, take, drop, replicate, length-append, length-take, length-drop, length-replicate, take-append-drop, drop-of-length-le}
 use lib.Seq.{getD-drop, drop-nil, length-take-le}
 use lib.IntN.{pos}
-use Rattle.wave.specs.Block.{sizeOf}
+use Rattle.wave.specs.Values.{sizeOf}
 use Rattle.wave.specs.declared.format.Format.{Format}
 use Rattle.wave.specs.declared.format.Format.the-variants.{Bits16, Bits24}
 use Rattle.wave.proofs.RoundTrips.{Bytes}
-use Rattle.eqfile.specs.Turn.{longest, fedInAll, wantedOf, turnOf}
-use Rattle.eqfile.specs.Program.{Turned, Turns, handed}
-use Rattle.eqfile.proofs.Pieces.{no-length}
+use Rattle.answers.specs.Unit.{blockLimit, frontLength}
+use Rattle.eqfile.specs.Turn.{fedInAll, wantedOf, turnOf}
+use Rattle.eqfile.specs.Program.{Piece, ByPlan, handed}
+use Rattle.eqfile.proofs.BlockCalls.{no-length}
 
 -- while all was read, the bytes of the block's samples are asked for
 wanted-is : (size samples at read fed : ℕ) → read ≡ size * min at samples → wantedOf size samples at read fed ≡ size * min fed (samples - at)
@@ -37,15 +38,15 @@ start size samples =
 -- ---- no piece is short
 
 -- every turn was handed all that it wanted
-unfoldable pub NoneShort : Format → (samples at read : ℕ) → List Turned → Type 0
+unfoldable pub NoneShort : Format → (samples at read : ℕ) → List Piece → Type 0
 NoneShort format samples at read [] = Unit {0}
 NoneShort format samples at read (u ∷ us) =
     let t = turnOf (sizeOf format) samples at read in
     (length (u .read) ≡ t .wanted) × NoneShort format samples (at + t .fed) (read + length (u .read)) us
 
-all-from : (format : Format) (samples at read : ℕ) (us : List Turned) → read ≡ sizeOf format * min at samples → Turns format samples at read us → NoneShort format samples at read us →
+all-from : (format : Format) (samples at read : ℕ) (us : List Piece) → read ≡ sizeOf format * min at samples → ByPlan format samples at read us → NoneShort format samples at read us →
     read + length (handed us) ≡ sizeOf format * samples
-unfolding Turns handed NoneShort turnOf
+unfolding ByPlan handed NoneShort turnOf
 all-from format samples at read [] e h n =
     let m : min at samples ≡ samples = omega arith in
     let z : read ≡ sizeOf format * samples = e ∙ ap (λ (k : ℕ). sizeOf format * k) m in
@@ -58,21 +59,21 @@ all-from format samples at read (u ∷ us) e h n =
     omega (arith, length-append (u .read) (handed us))
 
 -- then all bytes of the file's samples are read
-pub all-handed : (format : Format) (samples : ℕ) (us : List Turned) → Turns format samples 0 0 us → NoneShort format samples 0 0 us → length (handed us) ≡ sizeOf format * samples
+pub all-handed : (format : Format) (samples : ℕ) (us : List Piece) → ByPlan format samples 0 0 us → NoneShort format samples 0 0 us → length (handed us) ≡ sizeOf format * samples
 all-handed format samples us h n = omega (arith, all-from format samples 0 0 us (start (sizeOf format) samples) h n)
 
 -- ---- the front
 
 -- what of the data came with the front goes into the first block: that wants all of the data, or more bytes than a front has
-pub front-goes-first : (format : Format) (samples n : ℕ) → n ≤ 4096 →
+pub front-goes-first : (format : Format) (samples n : ℕ) → n ≤ frontLength →
     (turnOf (sizeOf format) samples 0 0 .wanted ≡ sizeOf format * samples) ⊎ (n ≤ turnOf (sizeOf format) samples 0 0 .wanted)
 unfolding turnOf
-front-goes-first format samples n h = by format (decLt 4096 samples)
+front-goes-first format samples n h = by format (decLt blockLimit samples)
   where
-    first : (format : Format) → turnOf (sizeOf format) samples 0 0 .wanted ≡ sizeOf format * min (min longest (fedInAll samples - 0)) (samples - 0)
-    first format = wanted-is (sizeOf format) samples 0 0 (min longest (fedInAll samples - 0)) (start (sizeOf format) samples)
+    first : (format : Format) → turnOf (sizeOf format) samples 0 0 .wanted ≡ sizeOf format * min (min blockLimit (fedInAll samples - 0)) (samples - 0)
+    first format = wanted-is (sizeOf format) samples 0 0 (min blockLimit (fedInAll samples - 0)) (start (sizeOf format) samples)
 
-    by : (format : Format) → Dec (4096 < samples) →
+    by : (format : Format) → Dec (blockLimit < samples) →
         (turnOf (sizeOf format) samples 0 0 .wanted ≡ sizeOf format * samples) ⊎ (n ≤ turnOf (sizeOf format) samples 0 0 .wanted)
     by Bits16 (yes l) = inr (omega (arith, first Bits16))
     by Bits24 (yes l) = inr (omega (arith, first Bits24))
@@ -82,7 +83,7 @@ front-goes-first format samples n h = by format (decLt 4096 samples)
 -- ---- any data
 
 -- turns that read as much of some data as they want
-runOf : ℕ → Format → (samples at read : ℕ) → List ℕ → List Turned
+runOf : ℕ → Format → (samples at read : ℕ) → List ℕ → List Piece
 runOf zero format samples at read s = []
 runOf (suc k) format samples at read s =
     let t = turnOf (sizeOf format) samples at read in
@@ -95,8 +96,8 @@ bytes-take (suc n) [] b i = omega arith
 bytes-take (suc n) (x ∷ s) b zero = b 0
 bytes-take (suc n) (x ∷ s) b (suc i) = bytes-take n s (λ j. b (suc j)) i
 
-run-turns : (k : ℕ) (format : Format) (samples at read : ℕ) (s : List ℕ) → Bytes s → fedInAll samples ≤ at + k → Turns format samples at read (runOf k format samples at read s)
-unfolding Turns runOf turnOf
+run-turns : (k : ℕ) (format : Format) (samples at read : ℕ) (s : List ℕ) → Bytes s → fedInAll samples ≤ at + k → ByPlan format samples at read (runOf k format samples at read s)
+unfolding ByPlan runOf turnOf
 run-turns zero format samples at read s b h = omega arith
 run-turns (suc k) format samples at read s b h =
     let t = turnOf (sizeOf format) samples at read in (
@@ -146,8 +147,8 @@ run-hands (suc k) format samples at read s r h =
 
 -- a run that reads just some bytes
 pub record Run (format : Format) (samples : ℕ) (s : List ℕ) : Type 0 where
-  pub turns : List Turned
-  pub runs : Turns format samples 0 0 turns
+  pub turns : List Piece
+  pub runs : ByPlan format samples 0 0 turns
   pub hands : handed turns ≡ s
 
 -- .. there is one for any data, cut short or not

@@ -1,0 +1,72 @@
+-- The checks in their order. Assumes nothing.
+use mathlib.Core.Path.{_≡_, refl}
+use mathlib.Core.Bool.{Bool, true, false, cond}
+use lib.Dec.{eqb, ltb}
+use mathlib.Core.List.{List}
+use Prim.Native.Nat.{ℕ, _*_, _/_, _≤_, _<_}
+use native.Mathlib.Omega.{arith}
+use borrow.Author.Tests.{lt-ltb, le-ltb, ltb-false, eq-eqb, ne-eqb}
+use Rattle.answers.specs.Answer.{Answer, accepted, refused}
+use Rattle.answers.specs.Unit.{largestData}
+use Rattle.wave.specs.Values.{sizeOf}
+use Rattle.wave.specs.Values.{bitsOf, blockSize}
+use Rattle.wave.specs.Walk.{Found, readOf, readAnswer}
+use Rattle.wave.specs.declared.format.Format.{Format}
+use Rattle.wave.specs.declared.reader.Reading.the-variants.{Accepted}
+use Rattle.eqfile.specs.declared.taking.Arguments.{Arguments}
+use Rattle.eqfile.specs.declared.taking.Arguments.the-variants as arguments
+use Rattle.eqfile.specs.Arguments.{bands}
+use Rattle.eqfile.specs.Start.{Plan, planFor, planOf, startOf}
+
+pub reader-refuses : (k : ℕ) → refused k 0 ≡ planOf (refused k 0)
+unfolding planOf
+reader-refuses k = refl
+
+module _ (rate : ℕ) (format : Format) (size start block : ℕ) (is : block ≡ sizeOf format) where
+  pub too-long : largestData < 3 * (size / block) → refused 26 0 ≡ planOf (readAnswer (Accepted rate format size start))
+  unfolding planOf
+  too-long h = rw (lt-ltb largestData (3 * (size / sizeOf format)) (rw is at h))
+
+  pub to-be-written : 3 * (size / block) ≤ largestData →
+      accepted (record { rate = rate; bits = bitsOf format; samples = size / block; start = start }) ≡ planOf (readAnswer (Accepted rate format size start))
+  unfolding planOf
+  to-be-written h = rw (is, le-ltb largestData (3 * (size / sizeOf format)) (rw is at h))
+
+pub arguments-refused : (front : List ℕ) → refused 30 0 ≡ startOf arguments.Refused front
+unfolding startOf
+arguments-refused front = refl
+
+pub not-eight : (n : ℕ) (front : List ℕ) → (n ≡ bands → ⊥) → refused 30 0 ≡ startOf (arguments.Taken n) front
+unfolding startOf
+not-eight n front h = rw (ne-eqb n bands h)
+
+pub eight : (n : ℕ) (front : List ℕ) (a : Answer Plan) → n ≡ bands → a ≡ planOf (readOf front) → a ≡ startOf (arguments.Taken n) front
+unfolding startOf
+eight n front a h e = rw (eq-eqb n bands h, e)
+
+-- a run that starts has samples whose bytes a header can state
+abbrev pub Writable : Answer Plan → Type 0
+Writable (accepted p) = 3 * p .samples ≤ largestData
+Writable (refused k p) = Unit {0}
+
+writable-plan : (f : Found) → Writable (planFor f)
+writable-plan f = by (ltb largestData (3 * (f .size / blockSize (f .bits)))) refl
+  where
+    by : (b : Bool) → ltb largestData (3 * (f .size / blockSize (f .bits))) ≡ b →
+        Writable (cond b (refused 26 0) (accepted (record { rate = f .rate; bits = f .bits; samples = f .size / blockSize (f .bits); start = f .start })))
+    by true e = tt
+    by false e = let h = ltb-false largestData (3 * (f .size / blockSize (f .bits))) e in omega arith
+
+writable-read : (a : Answer Found) → Writable (planOf a)
+unfolding planOf
+writable-read (accepted f) = writable-plan f
+writable-read (refused k p) = tt
+
+pub writable : (a : Arguments) (front : List ℕ) → Writable (startOf a front)
+unfolding startOf
+writable arguments.Refused front = tt
+writable (arguments.Taken n) front = by (eqb n bands)
+  where
+    by : (b : Bool) → Writable (cond b (planOf (readOf front)) (refused 30 0))
+    by true = writable-read (readOf front)
+    by false = tt
