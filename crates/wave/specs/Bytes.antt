@@ -1,16 +1,16 @@
--- Numbers and names as bytes, from the page's section WAVE.
+-- Numbers and names as bytes.
 use Prim.Native.Nat.{ℕ, zero, suc, _+_, _*_, _/_, _%_}
 use mathlib.Core.Bool.{Bool, true, false, _&&_}
 use mathlib.Core.List.{List, [], _∷_}
 use lib.ListN.{take, drop}
 use lib.Dec.{eqb}
 
--- "Numbers are little-endian": the number that bytes stand for
+-- rule 8.1: the number that bytes stand for, the lowest first
 unfoldable pub number : List ℕ → ℕ
 number [] = 0
 number (b ∷ s) = b + 256 * number s
 
--- "Numbers are little-endian": the k bytes of a number
+-- rule 8.1: the k bytes of a number, the lowest first
 unfoldable pub little : ℕ → ℕ → List ℕ
 little zero n = []
 little (suc k) n = n % 256 ∷ little k (n / 256)

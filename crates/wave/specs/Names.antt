@@ -1,4 +1,4 @@
--- "four bytes of name": the four that the page gives, in ASCII.
+-- The four names (rule 8.1), in ASCII.
 use Prim.Native.Nat.{ℕ}
 use mathlib.Core.List.{List, [], _∷_}
 

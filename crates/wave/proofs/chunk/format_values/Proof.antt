@@ -11,12 +11,12 @@ fields : (c : tie.After-two4) → Fields (c .before .before .before .before .bef
     (c .before .before .before .two2 .result) (c .before .before .two3 .result) (c .before .before .before .before .before .four .result)
     (c .before .four2 .result) (c .two4 .result) (c .before .before .before .before .two .result)
 fields c = record {
-  tag-is = c .before .before .before .two2 .ensures;
-  channels-is = c .before .before .two3 .ensures;
+  tag-is = c .before .before .before .two2 .ensures .0;
+  channels-is = c .before .before .two3 .ensures .0;
   rate-is = c .before .before .before .before .before .four .ensures;
   byteRate-is = c .before .four2 .ensures;
-  block-is = c .two4 .ensures;
-  bits-is = c .before .before .before .before .two .ensures;
+  block-is = c .two4 .ensures .0;
+  bits-is = c .before .before .before .before .two .ensures .0;
 }
 
 returns : tie.Need-returns

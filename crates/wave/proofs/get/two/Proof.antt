@@ -8,7 +8,7 @@ use Rattle.wave.proofs.get.two.Tie as tie
 returns : tie.Need-returns
 returns c =
     let a = c .before .before .before .before .before .args in
-    omega (arith, field-2 (a .s .now) (a .place), c .before .before .wide .ensures .0, c .wide2 .ensures .0)
+    (omega (arith, field-2 (a .s .now) (a .place), c .before .before .wide .ensures .0, c .wide2 .ensures .0), omega arith)
 
 pub two-spec : {M : Type 1} → statement M
 two-spec =
