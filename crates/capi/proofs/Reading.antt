@@ -1,6 +1,6 @@
 -- The reader's answer can be returned, and what it found fits its four places. Assumes nothing.
 use mathlib.Core.Path.{_≡_, refl}
-use mathlib.Core.Bool.{_&&_}
+use mathlib.Core.Bool.{Bool, true, false, cond, _&&_}
 use mathlib.Core.List.{List, [], _∷_}
 use Prim.Native.Nat.{ℕ, zero, suc, _%_, _≤_}
 use native.Mathlib.Omega.{arith}
@@ -17,7 +17,6 @@ use Rattle.wave.specs.Walk.{Found, Seen, nothing, sound, Step, ends, on, first,
 use Rattle.wave.specs.declared.reader.Reading.{Reading}
 use Rattle.wave.specs.declared.reader.Reading.the-variants.{Accepted, NotWave, NoFormat, WrongFormat, CutOff, PartSample}
 use Rattle.wave.proofs.AfterData.{accepted-start}
-use Rattle.wave.proofs.ByTest.{cond-case}
 use Rattle.wave.proofs.reader.Reading as reading
 use Rattle.capi.specs.Found.{ofFound, foundAfter}
 use Rattle.capi.specs.Parts.{Returnable, StartFits}
@@ -31,31 +30,18 @@ abbrev StepFine : Step → Type 0
 StepFine (ends answer) = Fine answer
 StepFine (on place seen) = Unit
 
-fmt-fine : (rest : List ℕ) (at : ℕ) (seen : Seen) → StepFine (fmtChunk rest at seen)
-unfolding fmtChunk first values
-fmt-fine rest at seen =
-    cond-case StepFine _ _ (eqb (field rest 4 4) 16)
-    (λ _. cond-case StepFine _ _ (leb 24 (length rest)) (λ _. by seen) (λ _. search lit<))
-    (λ _. search lit<)
-  where
-    by : (seen : Seen) → StepFine (first seen (values rest at))
-    by nothing =
-        cond-case StepFine _ _ (right (field rest 8 2) (field rest 10 2) (field rest 12 4) (field rest 16 4) (field rest 20 2) (field rest 22 2))
-        (λ _. tt) (λ _. search lit<)
-    by (sound rate bits) = search lit<
+either : (t : Bool) (a b : Answer Found) → Fine a → Fine b → Fine (cond t a b)
+either true a b f g = f
+either false a b f g = g
 
-data-fine : (size at : ℕ) (seen : Seen) → Fine (dataChunk size at seen)
-unfolding dataChunk
-data-fine size at nothing = search lit<
-data-fine size at (sound rate bits) = cond-case Fine _ _ (eqb (size % blockSize bits) 0) (λ _. refl) (λ _. search lit<)
+either-step : (t : Bool) (a b : Step) → StepFine a → StepFine b → StepFine (cond t a b)
+either-step true a b f g = f
+either-step false a b f g = g
 
 chunk-fine : (rest : List ℕ) (at : ℕ) (seen : Seen) → StepFine (chunk rest at seen)
-unfolding chunk
-chunk-fine rest at seen =
-    cond-case StepFine _ _ (leb 8 (length rest))
-    (λ _. cond-case StepFine _ _ (same (take 4 rest) fmt) (λ _. fmt-fine rest at seen)
-    (λ _. cond-case StepFine _ _ (same (take 4 rest) data′) (λ _. data-fine (field rest 4 4) at seen) (λ _. tt)))
-    (λ _. search lit<)
+unfolding chunk fmtChunk first values dataChunk
+chunk-fine rest at nothing = search (either-step, lit<) depth 12
+chunk-fine rest at (sound rate bits) = search (either, either-step, lit<) depth 12
 
 -- ---- the walk's
 
@@ -72,8 +58,7 @@ pub read-returnable : (lent : List ℕ) → Returnable (ofFound (readOf lent))
 unfolding readOf judge
 read-returnable lent =
     let front : List ℕ = take frontLength lent in
-    cond-case Fine _ _ (leb 12 (length front) && (same (take 4 front) riff && same (take 4 (drop 8 front)) wave))
-    (λ _. walk-fine (length front) front 12 nothing) (λ _. search lit<)
+    either (leb 12 (length front) && (same (take 4 front) riff && same (take 4 (drop 8 front)) wave)) _ _ (walk-fine (length front) front 12 nothing) (search lit<)
 
 -- ---- the four places
 

@@ -1,5 +1,4 @@
 -- `equaliser::oeq_prepare` meets its contract: the library call's answer, encoded, and what it leaves. Assumes nothing.
-use lib.IntN.{ℤ}
 use native.Mathlib.Omega.{arith}
 use borrow.Author.Needs.{needs}
 use denote.Ref.{now}
