@@ -1,10 +1,10 @@
 -- The laws of a list of checks: accepted exactly if no check fails, else the case of the first that does, and every lent place
 -- as before. Each call cites them. Assumes nothing.
-use mathlib.Core.Path.{_≡_, refl, sym, ap, _∙_}
+use mathlib.Core.Path.{_≡_, refl, sym, ap, _∙_, subst}
 use mathlib.Core.Logic.{_⊎_, inl, inr}
 use mathlib.Core.Bool.{Bool, true, false, cond, _&&_, false≢true}
 use mathlib.Core.List.{List, [], _∷_}
-use Prim.Native.Nat.{_<_}
+use Prim.Native.Nat.{ℕ, _<_}
 use lib.Dec.{ltb, lit<}
 use Rattle.answers.specs.Answer.{Answer, accepted, numberIn}
 use Rattle.answers.specs.Checks.{Check, allHold, choose, Outcome, decide, Done}
@@ -96,6 +96,10 @@ decided before after result (c ∷ cs) = by (c .holds) (decided before after res
         cond t (decide cs before result after) (record { result = c .otherwise; lent = before }) .result ≡ cond t (choose cs result) (c .otherwise)
     by true e = e
     by false e = refl
+
+-- what holds of each case under the tests that lead to it holds of that answer too
+pub chosen-every : {R : Type 0} (result : R) (P : R → Type 0) (cs : List (Check R)) → Each P cs result → P (choose cs result)
+chosen-every result P cs h = subst P (decided [] [] result cs) (every {L = List ℕ} [] [] result P cs h)
 
 pub all-or-first : {R : Type 0} (cs : List (Check R)) → (allHold cs ≡ true) ⊎ ((r : R) × First cs r)
 unfolding allHold
