@@ -4,6 +4,8 @@ ghost use mathlib.Core.Path.{_≡_};
 ghost use Prim.Native.Nat.{_*_};
 ghost use lib.ListN.{length};
 ghost use Rattle.answers.specs.Unit.{blockLimit};
+ghost use Rattle.octave.specs.Memory.{memoryLength};
+ghost use Rattle.eqfile.specs.Arguments.{bands};
 
 const BLOCK_BYTES: usize = 3 * BLOCK_LIMIT;
 // The memory length of eight bands.

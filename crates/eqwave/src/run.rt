@@ -3,8 +3,9 @@ use crate::buffers;
 use crate::say;
 use eqfile::Turn;
 use wave::Format;
-ghost use Prim.Native.Nat.{_≤_};
+ghost use Prim.Native.Nat.{_*_, _≤_};
 ghost use lib.ListN.{length};
+ghost use Rattle.answers.specs.Unit.{largestData};
 ghost use Rattle.eqwave.specs.Room.{Room};
 
 // The data bytes of a block: those that came with the front, then those of standard input.
@@ -91,7 +92,7 @@ fn missing(bytes: usize) {
 }
 
 fn put_header(rate: u32, samples: u32) -> bool
-    requires { ⌜ samples ≤ 1431655753 ⌝ }
+    requires { ⌜ 3 * samples ≤ largestData ⌝ }
 {
     let mut header = [0u8; 44];
     wave::write(&mut header, rate, 3 * samples);
@@ -106,13 +107,13 @@ pub(crate) fn run(
     front: &[u8],
     start: usize,
 )
-    requires { ⌜ samples ≤ 1431655753 ⌝ }
+    requires { ⌜ 3 * samples ≤ largestData ⌝ }
 {
     if !put_header(rate, samples) {
         say::output_failed();
         return;
     }
     let mut memory = buffers::memory();
-    octave::memory::prepare(8, &mut memory);
+    octave::memory::prepare(eqfile::BANDS as i32, &mut memory);
     blocks(format, samples, gains, &mut memory, front, start);
 }
