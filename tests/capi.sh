@@ -10,5 +10,5 @@ rt staticlib capi > "$made/log" 2>&1 || { cat "$made/log"; exit 1; }
 archive=target/staticlib/libcapi.a
 "${CC[@]}" "${CFLAGS[@]}" examples/minimal.c "$archive" -o "$made/minimal"
 "${RUN[@]}" "$made/minimal" | diff examples/minimal.expected -
-"${CC[@]}" "${CFLAGS[@]}" tests/differential/*.c "$archive" -lm -o "$made/differential"
+"${CC[@]}" "${CFLAGS[@]}" -Itests/model tests/differential/*.c tests/model/tree.c "$archive" -lm -o "$made/differential"
 "${RUN[@]}" "$made/differential" "$@"

@@ -7,10 +7,10 @@ use Rattle.readings.proofs.course.draw.Statement.{statement}
 use Rattle.readings.proofs.course.draw.Tie as tie
 
 abbrev Inv-loop : tie.InvT-loop
-Inv-loop signal input₀ n₀ state₀ i₀ i-end input n state i = (length input ≡ length input₀) × (i ≤ i-end) × (i-end ≡ length input₀)
+Inv-loop signal places₀ n₀ state₀ i₀ i-end places n state i = (length places ≡ length places₀) × (i ≤ i-end) × (i-end ≡ length places₀)
 
 abbrev μ-loop : tie.MeasureT-loop
-μ-loop signal input₀ n₀ state₀ i₀ i-end input n state i = i-end - i
+μ-loop signal places₀ n₀ state₀ i₀ i-end places n state i = i-end - i
 
 loop-holds : tie.Need-loop-holds Inv-loop μ-loop
 loop-holds c = (refl, omega arith, refl)
@@ -18,14 +18,14 @@ loop-holds c = (refl, omega arith, refl)
 next-requires : tie.Need-next-requires Inv-loop μ-loop
 next-requires c κs = tt
 
-sample-requires : tie.Need-sample-requires Inv-loop μ-loop
-sample-requires c κs = tt
+value-requires : tie.Need-value-requires Inv-loop μ-loop
+value-requires c κs = tt
 
 mul-t10 : tie.Need-mul-t10 Inv-loop μ-loop
 mul-t10 c = omega arith
 
-slice-set-from-input : tie.Need-slice-set-from-input Inv-loop μ-loop
-slice-set-from-input c = omega arith
+slice-set-from-places : tie.Need-slice-set-from-places Inv-loop μ-loop
+slice-set-from-places c = omega arith
 
 wrapping-add-usize-requires : tie.Need-wrapping-add-usize-requires Inv-loop μ-loop
 wrapping-add-usize-requires c κs = tt
@@ -53,9 +53,9 @@ draw-spec =
     μ-loop
     loop-holds
     next-requires
-    sample-requires
+    value-requires
     mul-t10
-    slice-set-from-input
+    slice-set-from-places
     wrapping-add-usize-requires
     add-i
     loop-less

@@ -1,11 +1,12 @@
--- `course::noise` is safe: a number of 24 bits less 2^23 fits. Assumes nothing.
+-- `course::noise` meets its contract: a number of 24 bits less 2^23 fits. Assumes nothing.
+use mathlib.Core.Path.{_≡_}
 use Prim.Native.Nat.{ℕ, _%_, _/_, _<_}
 use native.Mathlib.Decide.{decLt}
 use native.Mathlib.Omega.{arith}
 use borrow.Author.Needs.{needs}
 use borrow.Author.Tests.{lt-ltb, le-ltb}
 use lib.IntN.{pos, _-ℤ_}
-use mir.Facts.{toZ-pos}
+use mir.Facts.{toZ-pos, toZ-ofZ}
 use mir.Syntax.{w32}
 use mir.Val.{SFits}
 use Rattle.readings.proofs.course.noise.Statement.{statement}
@@ -28,7 +29,10 @@ sub-result c =
     rw (toZ-pos w32 {n = n} (omega arith)) (less n small)
 
 returns : tie.Need-returns
-returns c = search needs
+returns c =
+    let n = c .args .state / 128 % 16777216 in
+    let small : n < 16777216 = omega arith in
+    rw (toZ-pos w32 {n = n} (omega arith)) (toZ-ofZ (less n small))
 
 pub noise-spec : {M : Type 1} → statement M
 noise-spec = tie.close (tie.spec cast-result sub-result returns)

@@ -1,4 +1,4 @@
-#include "plain.h"
+#include "tree.h"
 
 #include <string.h>
 
@@ -26,7 +26,7 @@ static int32_t back(const int32_t *line, int size, int at, int d)
 }
 
 /* One sample through the lines from line `bands` down; l is the stretch. */
-static struct stepped step(struct plain *plain, int bands, int l, const int32_t *gains, int32_t x)
+static struct stepped step(struct tree *tree, int bands, int l, const int32_t *gains, int32_t x)
 {
     struct stepped below, here;
     if (bands == 1) {
@@ -34,8 +34,8 @@ static struct stepped step(struct plain *plain, int bands, int l, const int32_t 
         here.aligned = x;
         return here;
     }
-    int size = plain->size, at = plain->position;
-    int32_t *line = plain->line[plain->bands - bands];
+    int size = tree->size, at = tree->position;
+    int32_t *line = tree->line[tree->bands - bands];
     int64_t sum = 313 * (int64_t)x - 1338 * (int64_t)back(line, size, at, 2 * l)
                 + 3593 * (int64_t)back(line, size, at, 4 * l) - 8718 * (int64_t)back(line, size, at, 6 * l)
                 + 31158 * (int64_t)back(line, size, at, 8 * l) + 50000 * (int64_t)back(line, size, at, 9 * l)
@@ -45,23 +45,23 @@ static struct stepped step(struct plain *plain, int bands, int l, const int32_t 
     int32_t low = (int32_t)limited(nearest(sum, 100000), INT32_MIN, INT32_MAX);
     here.aligned = back(line, size, at, size - 9 * l);
     line[at] = x;
-    below = step(plain, bands - 1, 2 * l, gains, low);
+    below = step(tree, bands - 1, 2 * l, gains, low);
     here.sum = below.sum + gains[bands - 1] * ((int64_t)here.aligned - below.aligned);
     return here;
 }
 
-void plain_prepare(struct plain *plain, int bands)
+void tree_prepare(struct tree *tree, int bands)
 {
-    memset(plain, 0, sizeof *plain);
-    plain->bands = bands;
-    plain->size = 9 << (bands - 1);
+    memset(tree, 0, sizeof *tree);
+    tree->bands = bands;
+    tree->size = 9 << (bands - 1);
 }
 
-void plain_block(struct plain *plain, const int32_t *gains, const int32_t *input, int32_t *output, size_t length)
+void tree_block(struct tree *tree, const int32_t *gains, const int32_t *input, int32_t *output, size_t length)
 {
     for (size_t i = 0; i < length; i++) {
-        struct stepped stepped = step(plain, plain->bands, 1, gains, input[i]);
+        struct stepped stepped = step(tree, tree->bands, 1, gains, input[i]);
         output[i] = (int32_t)limited(nearest(stepped.sum, 4096), -8388608, 8388607);
-        plain->position = plain->position + 1 < plain->size ? plain->position + 1 : 0;
+        tree->position = tree->position + 1 < tree->size ? tree->position + 1 : 0;
     }
 }

@@ -1,8 +1,8 @@
--- `blocks::all_faults` ends: the set counts up to 64. Assumes nothing.
+-- `cases::faults` ends: the set counts up to 64. Assumes nothing.
 use Prim.Native.Nat.{_≤_, _-_}
 use native.Mathlib.Omega.{arith}
-use Rattle.readings.proofs.blocks.all_faults.Statement.{statement}
-use Rattle.readings.proofs.blocks.all_faults.Tie as tie
+use Rattle.readings.proofs.cases.faults.Statement.{statement}
+use Rattle.readings.proofs.cases.faults.Tie as tie
 
 abbrev Inv-loop : tie.InvT-loop
 Inv-loop faults₀ faults = faults ≤ 64
@@ -28,7 +28,7 @@ loop-again c = omega arith
 returns : tie.Need-returns Inv-loop μ-loop
 returns c = tt
 
-pub all-faults-spec : {M : Type 1} → statement M
-all-faults-spec =
+pub faults-spec : {M : Type 1} → statement M
+faults-spec =
     tie.close
     (tie.spec Inv-loop μ-loop loop-holds faulty-requires add-faults loop-less loop-again returns)

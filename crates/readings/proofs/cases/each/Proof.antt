@@ -1,28 +1,28 @@
--- `show::each` is safe and ends: the place counts up to the list's length. Assumes nothing.
+-- `cases::each` is safe and ends: the place counts up to the list's length. Assumes nothing.
 use mathlib.Core.Path.{_≡_}
 use Prim.Native.Nat.{_≤_, _-_}
 use native.Mathlib.Omega.{arith}
 use lib.ListN.{length}
-use Rattle.readings.proofs.show.each.Statement.{statement}
-use Rattle.readings.proofs.show.each.Tie as tie
+use Rattle.readings.proofs.cases.each.Statement.{statement}
+use Rattle.readings.proofs.cases.each.Tie as tie
 
 abbrev Inv-loop : tie.InvT-loop
-Inv-loop s i₀ i-end i = (i ≤ i-end) × (i-end ≡ length s)
+Inv-loop ask numbers i₀ i-end i = (i ≤ i-end) × (i-end ≡ length numbers)
 
 abbrev μ-loop : tie.MeasureT-loop
-μ-loop s i₀ i-end i = i-end - i
+μ-loop ask numbers i₀ i-end i = i-end - i
 
 loop-holds : tie.Need-loop-holds Inv-loop μ-loop
 loop-holds c = omega arith
 
-mul-number : tie.Need-mul-number Inv-loop μ-loop
-mul-number c = omega arith
+mul-one : tie.Need-mul-one Inv-loop μ-loop
+mul-one c = omega arith
 
-shared-slice-copy-out-number : tie.Need-shared-slice-copy-out-number Inv-loop μ-loop
-shared-slice-copy-out-number c = omega arith
+shared-slice-copy-out-one : tie.Need-shared-slice-copy-out-one Inv-loop μ-loop
+shared-slice-copy-out-one c = omega arith
 
-number-requires : tie.Need-number-requires Inv-loop μ-loop
-number-requires c κs = tt
+one-requires : tie.Need-one-requires Inv-loop μ-loop
+one-requires c κs = tt
 
 add-i : tie.Need-add-i Inv-loop μ-loop
 add-i c = omega arith
@@ -43,9 +43,9 @@ each-spec =
     Inv-loop
     μ-loop
     loop-holds
-    mul-number
-    shared-slice-copy-out-number
-    number-requires
+    mul-one
+    shared-slice-copy-out-one
+    one-requires
     add-i
     loop-less
     loop-again
