@@ -1,7 +1,8 @@
 """Prints the lines that the program readings has to write, worked out by the model."""
 from model.tree import LEAST, MOST, block, check_bench, memory_length, prepare, prepared, ring_length
+from words import told
 
-MARK = 1000000000
+MARK = 9999999
 
 
 def total(places):
@@ -11,33 +12,33 @@ def total(places):
 
 def listed(places):
     """How many places, and each of them, or their total if they are many."""
-    return " ".join(str(z) for z in [len(places), *(places if len(places) <= 40 else ["total", total(places)])])
+    return [len(places), *(places if len(places) <= 40 else ["total", total(places)])]
 
 
-def changed(before, after):
-    """How many places differ."""
-    return sum(x != y for x, y in zip(before, after))
+def compared(before, places):
+    """How many places have changed, and the list."""
+    return [sum(x != y for x, y in zip(before, places)), *listed(places)]
 
 
-def show(*words):
-    """One line of words; an answer is two of them."""
-    print(*(" ".join(str(part) for part in w) if isinstance(w, tuple) else w for w in words))
+def show_length(M):
+    """The memory length."""
+    print("length", M, *told(memory_length(M)))
 
 
 def show_prepare(M, places):
     """Prepare on marked places."""
     memory = [MARK] * places
     answer = prepare(M, memory)
-    show("prepare", M, "bands in", places, "places:", answer, "changed", changed([MARK] * places, memory), "total", total(memory))
+    print("prepare", M, *told(answer), *compared([MARK] * places, memory))
 
 
-def show_block(memory, gains, samples, places, compared=True):
+def show_block(memory, gains, samples, places, comparing=True):
     """Block on a marked output."""
-    output, before = [MARK] * places, list(memory)
-    show("block memory", len(memory), "begins", listed(memory[:2]), "gains", listed(gains), "input", listed(samples), "output", places)
+    output, marked, before = [MARK] * places, [MARK] * places, list(memory)
+    print("block", len(memory), *listed(memory[:2]), *listed(gains), *listed(samples), places)
     answer = block(memory, gains, samples, output)
-    last = ("changed", changed(before, memory), changed([MARK] * places, output)) if compared else ()
-    show("-", answer, "memory total", total(memory), "output", listed(output), *last)
+    lists = [*compared(before, memory), *compared(marked, output)] if comparing else [*listed(memory), *listed(output)]
+    print("", *told(answer), *lists)
 
 
 BEFORE = [8388607, -8388608, 100000, -1, 7, 0, 16]
@@ -65,7 +66,7 @@ COUNTS = [-(2**31), *range(-2, 12), 2**31 - 1]
 def show_numbers():
     """Refusals 1 to 8 at their edges, and an empty block."""
     for M in COUNTS:
-        show("memory of", M, "bands:", memory_length(M))
+        show_length(M)
     for M in COUNTS:
         show_prepare(M, 20)
     for count in COUNTS:
@@ -135,7 +136,7 @@ SIGNALS = {
 def course(M, name):
     """Prepare, and then blocks with gains drawn for each."""
     memory, n, state = [MARK] * memory_length(M)[1], 0, M
-    show("course of", M, "bands:", name, prepare(M, memory))
+    print("course", M, *told(prepare(M, memory)))
     for new in LENGTHS:
         gains, samples = [], []
         for _ in range(M):
@@ -145,7 +146,7 @@ def course(M, name):
             state = drawn(state)
             samples.append(SIGNALS[name](n, state))
             n += 1
-        show_block(memory, gains, samples, new, compared=False)
+        show_block(memory, gains, samples, new, comparing=False)
 
 
 def any_places(M, position):
@@ -155,12 +156,13 @@ def any_places(M, position):
         state = drawn(state)
         memory.append(2**31 - 1 if state // 2**30 % 2 == 0 else -(2**31))
     memory[:2] = [M, position]
-    show_block(memory, [8] + [0] * (M - 1), [MOST] * 40, 40, compared=False)
+    show_block(memory, [8] + [0] * (M - 1), [MOST] * 40, 40)
 
 
 def show_courses():
     """Every signal and any places, at 2, 3, 8 and 10 bands."""
     for name in SIGNALS:
+        print(name)
         for M in [2, 3, 8, 10]:
             course(M, name)
     for M in [2, 3, 8, 10]:

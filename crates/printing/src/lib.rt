@@ -1,9 +1,10 @@
-// What the programs that run readings share: text, numbers and answers on standard output, and parts of what they lend.
+// What the programs that run readings share: text, numbers and answers on standard output; lists of places.
 // No contract can say what is written. A function that hands something over says what it is.
-ghost use Prim.Native.Nat.{_≤_, min};
+pub mod places;
+
+ghost use Prim.Native.Nat.{min};
 ghost use mathlib.Core.Path.{_≡_};
 ghost use lib.IntN.{natAbs};
-ghost use lib.ListN.{length};
 ghost use Rattle.printing.specs.Part.{Front};
 
 // What a call answered: a number, or the number of its refusal.
@@ -30,6 +31,11 @@ pub fn field(n: u64) {
     number(n);
 }
 
+// A space and how many.
+pub fn count(n: usize) {
+    field(n as u64);
+}
+
 // A number without its sign.
 pub fn magnitude(z: i32) -> u64
     ensures { λ r. ⌜ r ≡ natAbs z ⌝ }
@@ -54,40 +60,36 @@ pub fn signed_field(z: i32) {
     signed(z);
 }
 
-pub fn fields(s: &[i32]) {
-    for i in 0..s.len() {
-        signed_field(s[i]);
-    }
-}
-
 fn wide(x: u8) -> u64
     ensures { λ r. ⌜ r ≡ x ⌝ }
 {
     x as u64
 }
 
-// Two digits for each byte.
+// A space and two digits for each byte.
 pub fn hex(s: &[u8]) {
+    text(b" ");
     for i in 0..s.len() {
         io::print_hex(1, wide(s[i]), 2);
     }
 }
 
-// The eight digits of a float's bits.
+// A space and the eight digits of a float's bits.
 pub fn pattern(bits: u32) {
+    text(b" ");
     io::print_hex(1, bits as u64, 8);
 }
 
-// `refused` and the number, or what is accepted in words and the answer.
-pub fn told(words: &[u8], answer: Answer) {
+// `accepted` or `refused`, and the number.
+pub fn told(answer: Answer) {
     match answer {
         Answer::Accepted(n) => {
-            text(words);
-            number(n);
+            text(b" accepted");
+            field(n);
         }
         Answer::Refused(n) => {
-            text(b"refused ");
-            number(n);
+            text(b" refused");
+            field(n);
         }
     }
 }
@@ -98,34 +100,9 @@ pub fn least(a: usize, b: usize) -> usize
     if a < b { a } else { b }
 }
 
-// How many of the first n places there are.
-pub fn front(n: usize, s: &[i32]) -> usize
-    ensures { λ r. ⌜ Front n r (now (s .entry)) ⌝ }
-{
-    least(n, s.len())
-}
-
 // How many of the first n bytes there are.
 pub fn front_bytes(n: usize, s: &[u8]) -> usize
     ensures { λ r. ⌜ Front n r (now (s .entry)) ⌝ }
 {
     least(n, s.len())
-}
-
-fn one_if(differs: bool) -> usize
-    ensures { λ r. ⌜ r ≤ 1 ⌝ }
-{
-    if differs { 1 } else { 0 }
-}
-
-// How many places differ, as far as both lists go.
-pub fn changed(a: &[i32], b: &[i32]) -> usize
-    ensures { λ r. ⌜ r ≤ min (length (now (a .entry))) (length (now (b .entry))) ⌝ }
-{
-    let n = least(a.len(), b.len());
-    let mut k: usize = 0;
-    for i in 0..n {
-        k += one_if(a[i] != b[i]);
-    }
-    k
 }

@@ -2,6 +2,7 @@
 use mathlib.Core.Path.{_≡_}
 use Prim.Native.Nat.{_≤_, _-_}
 use native.Mathlib.Omega.{arith}
+use borrow.Author.Needs.{needs}
 use lib.ListN.{length}
 use Rattle.printing.proofs.hex.Statement.{statement}
 use Rattle.printing.proofs.hex.Tie as tie
@@ -11,6 +12,12 @@ Inv-loop s i₀ i-end i = (i ≤ i-end) × (i-end ≡ length s)
 
 abbrev μ-loop : tie.MeasureT-loop
 μ-loop s i₀ i-end i = i-end - i
+
+slice-aggregate-text : tie.Need-slice-aggregate-text Inv-loop μ-loop
+slice-aggregate-text c = search needs
+
+text-requires : tie.Need-text-requires Inv-loop μ-loop
+text-requires c κs = tt
 
 loop-holds : tie.Need-loop-holds Inv-loop μ-loop
 loop-holds c = omega arith
@@ -42,6 +49,8 @@ hex-spec =
     (tie.spec
     Inv-loop
     μ-loop
+    slice-aggregate-text
+    text-requires
     loop-holds
     shared-slice-read-wide
     wide-requires
