@@ -3,22 +3,29 @@ use native.Mathlib.Omega.{arith}
 use borrow.Author.Needs.{needs}
 use denote.Ref.{now}
 use Rattle.octave.specs.Answer.{blockAnswer}
+use Rattle.octave.specs.Block.{blockOf}
 use Rattle.capi.proofs.Encoding.{lent-fits, lent-returned}
 use Rattle.capi.proofs.Returnable.{block-counted}
 use Rattle.capi.proofs.equaliser.oeq_block.Statement.{statement}
 use Rattle.capi.proofs.equaliser.oeq_block.Tie as tie
 
-counted-requires : tie.Need-counted-requires
-counted-requires c κs =
-    let call = c .before .before .before .before in
-    let s = call .before .before .before in
-    (omega arith, lent-fits blockAnswer (call .block .ensures) (block-counted (now (s .args .memory)) (now (s .args .gains)) (now (s .args .input)) (now (s .args .output))) (c .block-value .ensures))
-
 returns : tie.Need-returns
 returns c =
     let call = c .before .before .before .before .before in
-    let s = call .before .before .before in
-    lent-returned blockAnswer (call .block .ensures) (block-counted (now (s .args .memory)) (now (s .args .gains)) (now (s .args .input)) (now (s .args .output))) (c .before .block-value .ensures) (c .before .before .block-number .ensures) (c .counted .ensures) (c .counted .ok)
+    let a = call .before .before .before .args in
+    lent-returned blockAnswer {o = blockOf (now (a .memory)) (now (a .gains)) (now (a .input)) (now (a .output))} (call .block .ensures)
+    (block-counted (now (a .memory)) (now (a .gains)) (now (a .input)) (now (a .output))) (c .before .block-value .ensures)
+    (c .before .before .block-number .ensures) (c .counted .ensures) (c .counted .ok)
+
+counted-requires : tie.Need-counted-requires
+counted-requires c κs =
+    let call = c .before .before .before .before in
+    let a = call .before .before .before .args in
+    (
+      omega arith,
+      lent-fits blockAnswer {o = blockOf (now (a .memory)) (now (a .gains)) (now (a .input)) (now (a .output))} (call .block .ensures)
+          (block-counted (now (a .memory)) (now (a .gains)) (now (a .input)) (now (a .output))) (c .block-value .ensures),
+    )
 
 pub oeq-block-spec : {M : Type 1} → statement M
 oeq-block-spec =
