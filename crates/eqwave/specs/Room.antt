@@ -5,7 +5,8 @@ use lib.ListN.{length}
 use lib.IntN.{ℤ}
 use Rattle.eqfile.specs.declared.plan.Turn.{Turn}
 
-pub record Room (turn : Turn) (input output : List ℤ) (stored : List ℕ) : Type 0 where
+pub record Room (turn : Turn) (got : ℕ) (bytes : List ℕ) (input output : List ℤ) (stored : List ℕ) : Type 0 where
+  pub got-there : got ≤ length bytes
   pub input-room : turn .fed ≤ length input
   pub output-room : turn .fed ≤ length output
   pub stored-room : turn .written ≤ length stored
