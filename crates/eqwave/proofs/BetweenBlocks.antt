@@ -5,11 +5,10 @@ use Prim.Native.Nat.{ℕ, _+_, _-_, _*_, _≤_, _<_}
 use native.Mathlib.Omega.{arith}
 use lib.ListN.{length, length-append}
 use lib.IntN.{ℤ}
-use Rattle.answers.specs.Unit.{blockLimit}
 use Rattle.eqfile.specs.declared.plan.Turn.{Turn}
 use Rattle.eqfile.specs.Turn.{fedInAll}
 use Rattle.eqfile.proofs.Turns.{Bounds}
-use Rattle.eqwave.specs.Room.{Room}
+use Rattle.eqwave.specs.Room.{samplesLong, bytesLong, Room}
 
 -- a part of the front of a list that is lent again
 pub in-front : (n : ℕ) (xs ys : List ℕ) → n ≤ length xs → n ≤ length (xs ++ ys)
@@ -20,10 +19,10 @@ pub record Between (samples total : ℕ) (memory₀ memory : List ℤ) (bytes : 
   pub whole : total ≡ fedInAll samples
   pub few : samples < 4294967296
   pub alike : length memory ≡ length memory₀
-  pub bytes-long : length bytes ≡ 3 * blockLimit
-  pub input-long : length input ≡ blockLimit
-  pub output-long : length output ≡ blockLimit
-  pub stored-long : length stored ≡ 3 * blockLimit
+  pub bytes-long : length bytes ≡ bytesLong
+  pub input-long : length input ≡ samplesLong
+  pub output-long : length output ≡ samplesLong
+  pub stored-long : length stored ≡ bytesLong
   pub within : at ≤ total
   pub read-most : read ≤ 3 * at
 
