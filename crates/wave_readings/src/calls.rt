@@ -51,7 +51,12 @@ fn low(word: u32) -> u8 {
 }
 
 pub(crate) fn sample(word: u32, length: usize) {
-    let bytes = [low(word), low(word / 256), low(word / 65536), low(word / 16777216)];
+    let bytes = [
+        low(word),
+        low(word / 256),
+        low(word / 65536),
+        low(word / 16777216),
+    ];
     let n = front_bytes(length, &bytes);
     sample_in(&bytes[..n]);
 }

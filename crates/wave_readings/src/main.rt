@@ -9,24 +9,89 @@ ghost use Prim.Native.Nat.{_<_};
 // Writing a header: the buffer, the rate, the length of the samples.
 const ROOMS: [usize; 12] = [44, 44, 44, 43, 45, 44, 44, 44, 44, 44, 44, 0];
 
-const RATES: [u32; 12] = [48000, 44100, 44100, 44101, 48000, 44101, 96000, 48000, 48000, 48000, 48000, 44100];
+const RATES: [u32; 12] = [
+    48000,
+    44100,
+    44100,
+    44101,
+    48000,
+    44101,
+    96000,
+    48000,
+    48000,
+    48000,
+    48000,
+    44100,
+];
 
-const LENGTHS: [u32; 12] = [6, 0, 4294967259, 4, 6, 4, 6, 7, 8, 4294967262, 4294967295, 3];
+const LENGTHS: [u32; 12] = [
+    6,
+    0,
+    4294967259,
+    4,
+    6,
+    4,
+    6,
+    7,
+    8,
+    4294967262,
+    4294967295,
+    3,
+];
 
 // A sample from bytes: so many of these, the lowest first.
-const WORDS: [u32; 12] = [0, 1, 32768, 32767, 65535, 1, 1, 16777215, 8388608, 8388607, 2147483648, 66051];
+const WORDS: [u32; 12] = [
+    0,
+    1,
+    32768,
+    32767,
+    65535,
+    1,
+    1,
+    16777215,
+    8388608,
+    8388607,
+    2147483648,
+    66051,
+];
 
 const BYTES: [usize; 12] = [0, 1, 2, 2, 2, 2, 3, 3, 3, 3, 4, 3];
 
 // A sample to bytes: the number and the buffer.
-const NUMBERS: [i32; 12] = [1, -1, 0, 8388607, -8388608, 8388608, -8388609, 2147483647, -2147483648, 5, 5, 8388608];
+const NUMBERS: [i32; 12] = [
+    1,
+    -1,
+    0,
+    8388607,
+    -8388608,
+    8388608,
+    -8388609,
+    2147483647,
+    -2147483648,
+    5,
+    5,
+    8388608,
+];
 
 const THREE: [usize; 12] = [3, 3, 3, 3, 3, 3, 3, 3, 3, 2, 4, 2];
 
 // Samples from bytes: so many of six, the bits of each, and how many samples there is room for.
 const LENT: [usize; 12] = [6, 6, 0, 5, 5, 6, 6, 2, 4, 3, 1, 0];
 
-const WIDE: [bool; 12] = [true, false, true, true, false, true, true, true, false, true, false, false];
+const WIDE: [bool; 12] = [
+    true,
+    false,
+    true,
+    true,
+    false,
+    true,
+    true,
+    true,
+    false,
+    true,
+    false,
+    false,
+];
 
 const PLACES: [usize; 12] = [2, 3, 0, 1, 2, 1, 3, 5, 2, 1, 0, 1];
 
