@@ -6,7 +6,7 @@
 #include <string.h>
 #include <time.h>
 #include "octave_eq.h"
-#include "plain.h"
+#include "tree.h"
 
 enum { BLOCK = 4096, BLOCKS = 8 };
 
@@ -18,7 +18,7 @@ __asm__(SKIP(SHIFT));
 #endif
 
 static int32_t memory[OEQ_MEMORY_LENGTH(10)], gains[10], input[BLOCK], output[BLOCK], plain_output[BLOCK];
-static struct plain plain;
+static struct tree tree;
 
 static double now(void)
 {
@@ -38,7 +38,7 @@ static void run_oeq(int bands, int blocks, size_t length)
 static void run_plain(int blocks, size_t length)
 {
     for (int i = 0; i < blocks; i++)
-        plain_block(&plain, gains, input, plain_output, length);
+        tree_block(&tree, gains, input, plain_output, length);
 }
 
 static int by_size(const void *a, const void *b)
@@ -59,7 +59,7 @@ int main(int argc, char **argv)
     uint64_t state = 1;
     if (oeq_is_refusal(oeq_prepare(bands, memory, OEQ_MEMORY_LENGTH(bands))) || rounds < 1)
         return 2;
-    plain_prepare(&plain, bands);
+    tree_prepare(&tree, bands);
     for (int i = 0; i < bands; i++)
         gains[i] = 1024 * (i + 3);
     for (int i = 0; i < BLOCK; i++) {

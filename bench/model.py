@@ -5,7 +5,7 @@ import shutil
 import subprocess
 import sys
 
-LOOPS = {"oeq": "octave::block::equalise", "plain": "plain_block"}
+LOOPS = {"oeq": "octave::block::equalise", "plain": "tree_block"}
 PROCESSORS = ["skylake", "znver2"]
 MISS = 16  # cycles
 OBJDUMP = shutil.which("x86_64-linux-gnu-objdump") or "objdump"

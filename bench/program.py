@@ -3,19 +3,20 @@ bands. Two files of noise, a short and a long one: the start of the program fall
 import os
 import resource
 import statistics
-import struct
 import subprocess
 import sys
 import tempfile
+
+sys.path.insert(0, os.path.join(os.path.dirname(os.path.abspath(__file__)), "..", "tests"))
+from model.wave import file24
 
 SHORT, LONG, TURNS = 100_000, 2_100_000, 7
 
 
 def noise(samples):
-    data = os.urandom(3 * samples)
-    head = struct.pack("<4sI8sIHHIIHH4sI", b"RIFF", len(data) + 36, b"WAVEfmt ", 16, 1, 1, 48000, 144000, 3, 24, b"data", len(data))
+    """A file of noise."""
     file = tempfile.TemporaryFile()
-    file.write(head + data)
+    file.write(file24(os.urandom(3 * samples)))
     return file
 
 

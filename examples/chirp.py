@@ -3,8 +3,11 @@
 
 Whole numbers only after the sine, so that the file is the same everywhere but for the last bit of a sine."""
 import math
-import struct
+import os
 import sys
+
+sys.path.insert(0, os.path.join(os.path.dirname(os.path.abspath(__file__)), "..", "tests"))
+from model.wave import file24, to_bytes
 
 RATE, SECONDS, LOW, HIGH, PEAK = 44100, 1.4, 40.0, 16000.0, 2097152
 
@@ -16,10 +19,8 @@ def sample(n):
 
 
 def main(path):
-    data = b"".join((sample(n) & 0xFFFFFF).to_bytes(3, "little") for n in range(int(RATE * SECONDS)))
     with open(path, "wb") as file:
-        file.write(b"RIFF" + struct.pack("<I", len(data) + 36) + b"WAVEfmt ")
-        file.write(struct.pack("<IHHIIHH", 16, 1, 1, RATE, 3 * RATE, 3, 24) + b"data" + struct.pack("<I", len(data)) + data)
+        file.write(file24(to_bytes(sample(n) for n in range(int(RATE * SECONDS))), RATE))
 
 
 main(sys.argv[1] if len(sys.argv) > 1 else "chirp.wav")

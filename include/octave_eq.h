@@ -2,8 +2,8 @@
  * octave_eq.h: the proved octave equaliser, its gain commands, the WAVE header and the sample codec, for C.
  *
  * Link with libcapi.a (x86-64 Linux), which needs nothing but memset. No call allocates, keeps a state of its own or
- * calls back; each comes back after a bounded time. Calls on different places may run at the same time. At ten bands
- * oeq_block takes about 2 KiB of stack.
+ * calls back, and each comes back, whatever it is handed. Calls on different places may run at the same time. At ten
+ * bands oeq_block takes about 2 KiB of stack.
  *
  * NUMBERS
  *   sample   int32_t, -8,388,608 to 8,388,607: 24 bits, full scale at both ends.
@@ -119,10 +119,11 @@ int64_t oeq_prepare(int32_t bands, int32_t *memory, size_t memory_length);
  *   input    samples
  *   output   as long as input; not the same places
  *
- * Growth: a line value is at most 1.4 times as large as the line above it, so from prepared memory each stays within
- * 32 bits (in other memory it is limited to 32 bits); the sum of eleven products has 64 bits, of which it fills 50, and
- * the gain sum at most 51. Nothing is rounded but each line value once, to the nearest with a tie away from zero, and
- * the gain sum once; then the output is limited to the sample range, and a loud sample never turns over. Scale nothing.
+ * Growth: a line value is at most 1.4024 times the largest of the line above it, and half a step: for ten bands below
+ * 176,009,875 from prepared memory, far within 32 bits (in other memory it is limited to 32 bits). The sum of eleven
+ * products has 64 bits, of which it fills 51 at most, and the gain sum of ten bands 50. Nothing is rounded but each line
+ * value once, to the nearest with a tie away from zero, and the gain sum once; then the output is limited to the sample
+ * range, and a loud sample never turns over. Scale nothing.
  *
  * Returns the number of samples written, input_length.
  * Refuses: 3 memory not accepted; 4 number of gains is not the count; 5 a gain not 0..16,384; 6 output length differs

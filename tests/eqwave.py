@@ -1,46 +1,30 @@
 #!/usr/bin/env python3
-"""Runs the built program for what its stored run does not see: standard error, refusals, pipes, long files.
+"""Runs the program that is built for what its stored run does not see: standard error, refusals, pipes, long files.
 
-Each expected byte is reckoned here or in reckon.c from the page. Exits with 1 if anything differs."""
+Each expected byte is the model's. Exits with 1 if anything differs, or if the program was not built before."""
 import os
 import random
-import struct
 import subprocess
 import sys
 import tempfile
 import time
 
-HERE = os.path.dirname(os.path.abspath(__file__))
-PROGRAM = os.path.join(HERE, "..", "eqwave")
+from model.compiled import Tree
+from model.gains import GAINS
+from model.wave import WHOLE, chunk, file24, fmt, riff
+
+TOP = os.path.join(os.path.dirname(os.path.abspath(__file__)), "..")
+PROGRAM = os.path.join(TOP, "eqwave")
+BUILT = os.path.join(TOP, "target", "bin", "eqwave")
 ZERO = ["0"] * 8
 LONG_SECONDS = 300
-WHOLE = bytes.fromhex(
-    "52494646 2A000000 57415645 666D7420 10000000 0100 0100 80BB0000 80320200 0300 1800 64617461 06000000 010000 FFFFFF".replace(" ", "")
-)
 failures = []
 cases = 0
 
 
-def chunk(name, contents, length=None):
-    return name + struct.pack("<I", len(contents) if length is None else length) + contents
-
-
-def fmt(rate=48000, bits=24, tag=1, channels=1, block=None, byte_rate=None):
-    block = bits // 8 if block is None else block
-    return chunk(b"fmt ", struct.pack("<HHIIHH", tag, channels, rate, rate * block if byte_rate is None else byte_rate, block, bits))
-
-
-def riff(*chunks, size=None):
-    body = b"WAVE" + b"".join(chunks)
-    return b"RIFF" + struct.pack("<I", len(body) if size is None else size) + body
-
-
-def wave24(data, rate=48000):
-    return riff(fmt(rate), chunk(b"data", data))
-
-
-def run(args, source, **more):
-    done = subprocess.run([PROGRAM] + args, input=source, stdout=subprocess.PIPE, stderr=subprocess.PIPE, timeout=300, **more)
+def run(args, source):
+    """What the program writes, and what it says."""
+    done = subprocess.run([PROGRAM] + args, input=source, stdout=subprocess.PIPE, stderr=subprocess.PIPE, timeout=300)
     return done.stdout, done.stderr
 
 
@@ -56,24 +40,13 @@ def expect(name, got, want):
 
 
 def refused(name, args, source, number):
+    """The program refuses with this number."""
     expect(name, run(args, source), (b"", b"refused %d\n" % number))
 
 
-def gain(n):
-    """The entry for n half decibels, by the page's inequalities."""
-    up, down = (10 ** n, 1) if n >= 0 else (1, 10 ** -n)
-    return next(g for g in range(1, 16385) if (2 * g - 1) ** 40 * down <= 8192 ** 40 * up < (2 * g + 1) ** 40 * down)
-
-
 def reckon(args, data):
-    gains = [str(gain(int(a))) for a in args]
-    return subprocess.run([RECKON] + gains, input=data, stdout=subprocess.PIPE, check=True).stdout
-
-
-def compile_reckon(folder):
-    out = os.path.join(folder, "reckon")
-    subprocess.run(["cc", "-O2", "-o", out, os.path.join(HERE, "reckon.c")], check=True)
-    return out
+    """What the program has to make of 24-bit samples."""
+    return TREE.outputs([GAINS[int(a)] for a in args], data)
 
 
 def samples(count, rng):
@@ -87,7 +60,12 @@ def samples(count, rng):
 
 
 def settings(rng):
+    """Eight arguments."""
     return [str(rng.randint(-24, 24)) for _ in range(8)]
+
+
+def models_agree(rng):
+    expect("the trees in C and in Python", (bytes(TREE.differs(rng)), b""), (b"", b""))
 
 
 def whole_case():
@@ -97,9 +75,9 @@ def whole_case():
 def zero_gives_back(rng):
     for count in (0, 1, 1142, 1143, 1144, 2953, 4095, 4096, 4097, 9000, rng.randrange(20000)):
         for rate in (44100, 48000):
-            source = wave24(samples(count, rng), rate)
+            source = file24(samples(count, rng), rate)
             expect(f"all 0, {count} samples at {rate}", run(ZERO, source), (source, b""))
-    source = wave24(samples(3000, rng))
+    source = file24(samples(3000, rng))
     expect("-0 and 00 are 0", run(["-0", "00", "-00"] + ZERO[3:], source), (source, b""))
 
 
@@ -117,8 +95,8 @@ def argument_values(rng):
     data = samples(1500, rng)
     for n in range(-24, 25):
         args = [str(n)] + ZERO[1:]
-        expect(f"lowest band {n}", run(args, wave24(data)), (wave24(reckon(args, data)), b""))
-    expect("two digits with a nought", run(["07"] + ZERO[1:], wave24(data)), (wave24(reckon(["7"] + ZERO[1:], data)), b""))
+        expect(f"lowest band {n}", run(args, file24(data)), (file24(reckon(args, data)), b""))
+    expect("two digits with a nought", run(["07"] + ZERO[1:], file24(data)), (file24(reckon(["7"] + ZERO[1:], data)), b""))
 
 
 def headers():
@@ -153,10 +131,10 @@ def headers():
 def accepted_headers(rng):
     data = samples(2000, rng)
     args = settings(rng)
-    want = (wave24(reckon(args, data)), b"")
+    want = (file24(reckon(args, data)), b"")
     before = chunk(b"LIST", b"x" * 100) + fmt() + chunk(b"fact", b"\0" * 4)
     expect("chunks before data", run(args, riff(before, chunk(b"data", data))), want)
-    expect("bytes after the data", run(args, wave24(data) + b"LIST\x04\0\0\0abcd"), want)
+    expect("bytes after the data", run(args, file24(data) + b"LIST\x04\0\0\0abcd"), want)
     expect("any RIFF size", run(args, riff(fmt(), chunk(b"data", data), size=0)), want)
     pad = chunk(b"note", b"\0" * (4096 - 12 - 24 - 8 - 8))
     expect("a header that ends at 4096", run(args, riff(fmt(), pad, chunk(b"data", data))), want)
@@ -167,9 +145,9 @@ def sixteen_bits(rng):
         data = rng.randbytes(2 * count)
         wide = b"".join(b"\0" + data[i:i + 2] for i in range(0, len(data), 2))
         source = riff(fmt(44100, 16), chunk(b"data", data))
-        expect(f"16 bits, {count} samples", run(ZERO, source), (wave24(wide, 44100), b""))
+        expect(f"16 bits, {count} samples", run(ZERO, source), (file24(wide, 44100), b""))
         args = settings(rng)
-        expect(f"16 bits, {count} samples, {args}", run(args, source), (wave24(reckon(args, wide), 44100), b""))
+        expect(f"16 bits, {count} samples, {args}", run(args, source), (file24(reckon(args, wide), 44100), b""))
 
 
 def short_data(rng):
@@ -183,13 +161,13 @@ def short_data(rng):
                 full = [there[i:i + size] for i in range(0, size * whole, size)]
                 wide = b"".join(s if bits == 24 else b"\0" + s for s in full) + b"\0\0\0" * (6000 - whole)
                 args = settings(rng)
-                want = (wave24(reckon(args, wide)), b"short %d\n" % (said - len(there)))
+                want = (file24(reckon(args, wide)), b"short %d\n" % (said - len(there)))
                 expect(f"{bits} bits short at {whole} samples and {part} bytes", run(args, source), want)
-    expect("nothing of the data", run(ZERO, riff(fmt(), chunk(b"data", b"", 6))), (wave24(b"\0" * 6), b"short 6\n"))
+    expect("nothing of the data", run(ZERO, riff(fmt(), chunk(b"data", b"", 6))), (file24(b"\0" * 6), b"short 6\n"))
 
 
 def slow_pipe(rng):
-    for source, step in ((WHOLE, 1), (wave24(samples(700, rng)), 1), (wave24(samples(20000, rng)), 997)):
+    for source, step in ((WHOLE, 1), (file24(samples(700, rng)), 1), (file24(samples(20000, rng)), 997)):
         child = subprocess.Popen([PROGRAM] + ZERO, stdin=subprocess.PIPE, stdout=subprocess.PIPE, stderr=subprocess.PIPE, bufsize=0)
         for i in range(0, len(source), step):
             child.stdin.write(source[i:i + step])
@@ -199,7 +177,7 @@ def slow_pipe(rng):
 
 
 def output_fails(rng):
-    source = wave24(samples(200000, rng))
+    source = file24(samples(200000, rng))
     line = b"eqwave: standard output: "
     with open("/dev/full", "wb") as full:
         said = subprocess.run([PROGRAM] + ZERO, input=source, stdout=full, stderr=subprocess.PIPE, timeout=60).stderr
@@ -229,7 +207,7 @@ def long_file(rng, folder):
     """Several minutes through a pipe, byte for byte; the memory after the first megabyte is the memory at the end."""
     args = settings(rng)
     data = samples(LONG_SECONDS * 48000, rng)
-    source = wave24(data)
+    source = file24(data)
     path = os.path.join(folder, "long.wav")
     began = time.time()
     with open(path, "wb") as sink:
@@ -241,17 +219,19 @@ def long_file(rng, folder):
         said = child.communicate(source[-3:])[1]
     took = time.time() - began
     with open(path, "rb") as file:
-        expect(f"{LONG_SECONDS} seconds of noise, {args}", (file.read(), said), (wave24(reckon(args, data)), b""))
+        expect(f"{LONG_SECONDS} seconds of noise, {args}", (file.read(), said), (file24(reckon(args, data)), b""))
     expect("constant memory", (b"grew" if late > early + 1024 else b"", b""), (b"", b""))
     print(f"{LONG_SECONDS} seconds of 48,000 samples took {took:.1f} s; memory {early} kB after a megabyte, {late} kB at the end")
 
 
 def main():
-    global RECKON
+    global TREE
     seed = int(sys.argv[1]) if len(sys.argv) > 1 else 20261115
     rng = random.Random(seed)
+    built = os.stat(BUILT)
     with tempfile.TemporaryDirectory() as folder:
-        RECKON = compile_reckon(folder)
+        TREE = Tree(folder)
+        models_agree(rng)
         whole_case()
         zero_gives_back(rng)
         arguments()
@@ -263,6 +243,7 @@ def main():
         slow_pipe(rng)
         output_fails(rng)
         long_file(rng, folder)
+    expect("no second build", (str(os.stat(BUILT).st_mtime_ns), ""), (str(built.st_mtime_ns), ""))
     print(f"eqwave: seed {seed}, {cases} cases, {len(failures)} differ")
     return 1 if failures else 0
 

@@ -4,82 +4,69 @@
     python3 tests/wave_cases.py crates/wave_readings/data
 """
 import os
-import struct
 import sys
 
+from model.wave import WHOLE, chunk, fmt, riff
 
-def chunk(name, contents, size=None):
-    return name + struct.pack("<I", len(contents) if size is None else size) + contents
-
-
-def fmt(tag=1, channels=1, rate=48000, byte_rate=None, block=None, bits=24):
-    block = bits // 8 if block is None else block
-    byte_rate = rate * block if byte_rate is None else byte_rate
-    return struct.pack("<HHIIHH", tag, channels, rate, byte_rate, block, bits)
-
-
-def riff(*chunks, size=42, first=b"RIFF", form=b"WAVE"):
-    return first + struct.pack("<I", size) + form + b"".join(chunks)
-
-
-TWO = b"\x01\x00\x00\xff\xff\xff"  # the samples 1 and -1
-WHOLE = riff(chunk(b"fmt ", fmt()), chunk(b"data", TWO))
+FMT = fmt()
+TWO = WHOLE[44:]  # the samples 1 and -1
 
 
 def filler(length):
     """A file whose `data` header ends `length` bytes from its start, behind a chunk that is passed over."""
-    return riff(chunk(b"fmt ", fmt()), chunk(b"note", b"\x55" * (length - 36 - 8 - 8)), chunk(b"data", TWO))
+    return riff(FMT, chunk(b"note", b"\x55" * (length - 36 - 8 - 8)), chunk(b"data", TWO))
 
 
 CASES = {
     "whole.wav": WHOLE,
-    "riff-size-any.wav": riff(chunk(b"fmt ", fmt()), chunk(b"data", TWO), size=0xFFFFFFFF),
-    "data-size-past-the-end.wav": riff(chunk(b"fmt ", fmt()), chunk(b"data", TWO, size=4294967295)),
-    "data-size-0.wav": riff(chunk(b"fmt ", fmt()), chunk(b"data", b"")),
-    "bits-16.wav": riff(chunk(b"fmt ", fmt(rate=44100, bits=16)), chunk(b"data", b"\x00\x80\xff\x7f\xff\xff")),
-    "note-before.wav": riff(chunk(b"note", b"abc"), chunk(b"fmt ", fmt()), chunk(b"note", b""), chunk(b"data", TWO)),
+    "riff-size-any.wav": riff(FMT, chunk(b"data", TWO), size=0xFFFFFFFF),
+    "data-size-past-the-end.wav": riff(FMT, chunk(b"data", TWO, size=4294967295)),
+    "data-size-0.wav": riff(FMT, chunk(b"data", b"")),
+    "bits-16.wav": riff(fmt(rate=44100, bits=16), chunk(b"data", b"\x00\x80\xff\x7f\xff\xff")),
+    "note-before.wav": riff(chunk(b"note", b"abc"), FMT, chunk(b"note", b""), chunk(b"data", TWO)),
     "header-ends-at-4096.wav": filler(4096),
     # 21
     "21-empty.wav": b"",
     "21-eleven-bytes.wav": WHOLE[:11],
-    "21-riff.wav": riff(chunk(b"fmt ", fmt()), chunk(b"data", TWO), first=b"RIFX"),
-    "21-wave.wav": riff(chunk(b"fmt ", fmt()), chunk(b"data", TWO), form=b"WAVX"),
+    "21-riff.wav": riff(FMT, chunk(b"data", TWO), first=b"RIFX"),
+    "21-wave.wav": riff(FMT, chunk(b"data", TWO), form=b"WAVX"),
     # 22
-    "22-data-first.wav": riff(chunk(b"data", TWO), chunk(b"fmt ", fmt())),
+    "22-data-first.wav": riff(chunk(b"data", TWO), FMT),
     "22-before-25.wav": riff(chunk(b"data", TWO, size=5)),
     # 23
-    "23-fmt-of-18.wav": riff(chunk(b"fmt ", fmt() + b"\0\0"), chunk(b"data", TWO)),
+    "23-fmt-of-18.wav": riff(chunk(b"fmt ", FMT[8:] + b"\0\0"), chunk(b"data", TWO)),
     "23-before-24.wav": riff(chunk(b"fmt ", b"", size=17)),
-    "23-second-fmt.wav": riff(chunk(b"fmt ", fmt()), chunk(b"fmt ", fmt()), chunk(b"data", TWO)),
-    "23-tag.wav": riff(chunk(b"fmt ", fmt(tag=3)), chunk(b"data", TWO)),
-    "23-channels.wav": riff(chunk(b"fmt ", fmt(channels=2)), chunk(b"data", TWO)),
-    "23-rate.wav": riff(chunk(b"fmt ", fmt(rate=44101)), chunk(b"data", TWO)),
-    "23-rate-high-byte.wav": riff(chunk(b"fmt ", fmt(rate=48000 + 2**24, byte_rate=144000)), chunk(b"data", TWO)),
-    "23-byte-rate.wav": riff(chunk(b"fmt ", fmt(byte_rate=144001)), chunk(b"data", TWO)),
-    "23-block.wav": riff(chunk(b"fmt ", fmt(block=4, byte_rate=192000)), chunk(b"data", TWO)),
-    "23-bits.wav": riff(chunk(b"fmt ", fmt(bits=32)), chunk(b"data", TWO)),
+    "23-second-fmt.wav": riff(FMT, FMT, chunk(b"data", TWO)),
+    "23-tag.wav": riff(fmt(tag=3), chunk(b"data", TWO)),
+    "23-channels.wav": riff(fmt(channels=2), chunk(b"data", TWO)),
+    "23-rate.wav": riff(fmt(rate=44101), chunk(b"data", TWO)),
+    "23-rate-high-byte.wav": riff(fmt(rate=48000 + 2**24, byte_rate=144000), chunk(b"data", TWO)),
+    "23-byte-rate.wav": riff(fmt(byte_rate=144001), chunk(b"data", TWO)),
+    "23-block.wav": riff(fmt(block=4, byte_rate=192000), chunk(b"data", TWO)),
+    "23-bits.wav": riff(fmt(bits=32), chunk(b"data", TWO)),
     # 24
     "24-twelve-bytes.wav": WHOLE[:12],
     "24-chunk-header.wav": WHOLE[:19],
     "24-fmt-contents.wav": WHOLE[:35],
-    "24-second-fmt-cut.wav": riff(chunk(b"fmt ", fmt()), chunk(b"fmt ", b"", size=16)),
+    "24-second-fmt-cut.wav": riff(FMT, chunk(b"fmt ", b"", size=16)),
     "24-no-data.wav": WHOLE[:36],
     "24-data-header.wav": WHOLE[:43],
-    "24-chunk-past-32-bits.wav": riff(chunk(b"fmt ", fmt()), chunk(b"note", TWO, size=4294967295), chunk(b"data", TWO)),
-    "24-chunk-of-2-to-31.wav": riff(chunk(b"fmt ", fmt()), chunk(b"note", TWO, size=2**31), chunk(b"data", TWO)),
+    "24-chunk-past-32-bits.wav": riff(FMT, chunk(b"note", TWO, size=4294967295), chunk(b"data", TWO)),
+    "24-chunk-of-2-to-31.wav": riff(FMT, chunk(b"note", TWO, size=2**31), chunk(b"data", TWO)),
     "24-header-ends-at-4097.wav": filler(4097),
     # 25
-    "25-part-of-24.wav": riff(chunk(b"fmt ", fmt()), chunk(b"data", TWO, size=5)),
-    "25-part-of-16.wav": riff(chunk(b"fmt ", fmt(bits=16)), chunk(b"data", TWO, size=5)),
-    "25-largest.wav": riff(chunk(b"fmt ", fmt()), chunk(b"data", TWO, size=4294967294)),
+    "25-part-of-24.wav": riff(FMT, chunk(b"data", TWO, size=5)),
+    "25-part-of-16.wav": riff(fmt(bits=16), chunk(b"data", TWO, size=5)),
+    "25-largest.wav": riff(FMT, chunk(b"data", TWO, size=4294967294)),
 }
 
 
-def main():
-    folder = sys.argv[1]
+def main(folder):
+    """Writes them all."""
     for name, data in CASES.items():
         with open(os.path.join(folder, name), "wb") as f:
             f.write(data)
 
 
-main()
+if __name__ == "__main__":
+    main(sys.argv[1])

@@ -2,7 +2,6 @@
 #include <math.h>
 #include <string.h>
 #include "check.h"
-#include "model.h"
 #include "octave_eq.h"
 #include "parts.h"
 
@@ -13,12 +12,22 @@ static float float_of(uint32_t bits)
     return x;
 }
 
+static int gain_of_half_decibels(int n)
+{
+    return (int)floor(4096.0 * pow(10.0, n / 40.0) + 0.5);
+}
+
+static int gain_of_factor(double factor)
+{
+    return (int)floor(factor * 4096.0 + 0.5);
+}
+
 static void try_decibels(float x)
 {
     double halves = (double)x * 2.0;
     int64_t answer = oeq_gain_decibels(x);
     if (halves >= -24.0 && halves <= 24.0 && halves == floor(halves))
-        CHECK(answer == model_half_decibels((int)halves), "%a dB: %lld", x, (long long)answer);
+        CHECK(answer == gain_of_half_decibels((int)halves), "%a dB: %lld", x, (long long)answer);
     else
         CHECK(answer == INT64_MIN + 11, "%a dB: %lld", x, (long long)answer);
 }
@@ -27,7 +36,7 @@ static void try_factor(float x)
 {
     int64_t answer = oeq_gain_factor(x);
     if (x >= 0.0f && x <= 4.0f)
-        CHECK(answer == model_factor(x), "factor %a: %lld", x, (long long)answer);
+        CHECK(answer == gain_of_factor(x), "factor %a: %lld", x, (long long)answer);
     else
         CHECK(answer == INT64_MIN + 12, "factor %a: %lld", x, (long long)answer);
 }

@@ -1,13 +1,20 @@
-/* prepare and block against the tree by time. */
+/* prepare and block against the tree in plain C. */
 #include "check.h"
 #include "lent.h"
-#include "model.h"
 #include "octave_eq.h"
 #include "parts.h"
+#include "tree.h"
+
+enum { MOST_BLOCK = OEQ_BLOCK_MOST };
+
+static long line_length(int bands)
+{
+    return 9L << (bands - 1);
+}
 
 static long length_of(int bands)
 {
-    return 2 + (bands - 1) * 9L * (1L << (bands - 1));
+    return 2 + (bands - 1) * line_length(bands);
 }
 
 static const int32_t outside_counts[] = {INT32_MIN, -10, -2, -1, 0, 1, 11, 12, 66, 258, INT32_MAX};
@@ -38,7 +45,7 @@ void lengths(void)
         IS_REFUSAL(oeq_prepare(bands, NULL, 0), 2);
         struct places memory = places_new((size_t)length);
         places_mark(memory);
-        CHECK(oeq_prepare(bands, memory.lent, memory.length) == tree_delay(bands), "%d bands", bands);
+        CHECK(oeq_prepare(bands, memory.lent, memory.length) == 9 * ((1 << (bands - 1)) - 1), "%d bands", bands);
         CHECK(memory.lent[0] == bands, "%d bands", bands);
         for (long i = 1; i < length; i++)
             CHECK(memory.lent[i] == 0, "%d bands, place %ld", bands, i);
@@ -83,27 +90,21 @@ static size_t random_cut(void)
     }
 }
 
-/* The places that the page and docs/LAYOUT.md give the memory after time n: the count, the place of the next sample, and
-   the lines from line M down to line 2, each a ring. */
-static void check_memory(const struct tree *tree, const int32_t *memory, long start, long n)
+/* Every place of the memory: the count, the place of the next sample, and the lines from line M down to line 2, each a ring. */
+static void check_memory(const struct tree *tree, const int32_t *memory)
 {
-    long size = 9L * (1L << (tree->bands - 1));
-    long next = (start + n + 1) % size;
-    CHECK(memory[0] == tree->bands && memory[1] == next, "position %d, not %ld", (int)memory[1], next);
-    for (int k = tree->bands, line = 0; k >= 2; k--, line++)
-        for (long back = 1; back <= size; back++) {
-            long time = n + 1 - back, place = (next - back + size) % size;
-            int64_t value = time < -tree->past ? 0 : tree->line[k][time + tree->past];
-            CHECK(memory[2 + line * size + place] == value, "%d bands, line %d, %ld back", tree->bands, k, back);
-        }
+    CHECK(memory[0] == tree->bands && memory[1] == tree->position, "position %d, not %d", (int)memory[1], tree->position);
+    for (int line = 0; line < tree->bands - 1; line++)
+        CHECK(memcmp(memory + 2 + line * tree->size, tree->line[line], (size_t)tree->size * sizeof *memory) == 0,
+              "%d bands, line %d", tree->bands, tree->bands - line);
 }
 
-/* Runs a block of the tree and of the library side by side, from time n on. */
+/* Runs a block of the tree and of the library side by side; n samples came before. */
 static void both(struct tree *tree, struct places memory, long n, size_t cut, int kind)
 {
     struct places output = places_new(cut);
-    static int32_t input[MOST_BLOCK];
-    int32_t gains[MOST_BANDS];
+    static int32_t input[MOST_BLOCK], expected[MOST_BLOCK];
+    int32_t gains[TREE_MOST_BANDS];
     for (int m = 0; m < tree->bands; m++)
         gains[m] = random_gain();
     for (size_t i = 0; i < cut; i++)
@@ -113,35 +114,34 @@ static void both(struct tree *tree, struct places memory, long n, size_t cut, in
     int64_t answer = oeq_block(memory.lent, memory.length, gains, (size_t)tree->bands, cut ? input : NULL, cut,
                                cut ? output.lent : NULL, cut);
     CHECK(answer == (int64_t)cut, "answered %lld for a block of %zu", (long long)answer, cut);
-    for (size_t i = 0; i < cut; i++) {
-        tree_sample(tree, n + (long)i, input[i]);
-        int32_t expected = tree_output(tree, n + (long)i, gains);
-        CHECK(output.lent[i] == expected, "%d bands, sample %ld: %d, not %d", tree->bands, n + (long)i,
-              (int)output.lent[i], (int)expected);
-    }
+    tree_block(tree, gains, input, expected, cut);
+    for (size_t i = 0; i < cut; i++)
+        CHECK(output.lent[i] == expected[i], "%d bands, sample %ld: %d, not %d", tree->bands, n + (long)i,
+              (int)output.lent[i], (int)expected[i]);
     CHECK(places_around_same(memory) && places_around_same(output), "%d bands", tree->bands);
     if (cut == 0)
         CHECK(places_same(memory), "an empty block");
     places_free(output);
 }
 
+static struct tree tree;
+
 void histories(int rounds)
 {
     for (int round = 0; round < rounds; round++)
         for (int bands = 2; bands <= 10; bands++) {
             int kind = (round + bands) % 7;
-            long size = 9L * (1L << (bands - 1)), length = 2 * size + 600 + (long)random_below(1000), n = 0;
-            struct tree *tree = tree_new(bands, 0, length + MOST_BLOCK);
+            long length = 2 * line_length(bands) + 600 + (long)random_below(1000), n = 0;
             struct places memory = places_new((size_t)length_of(bands));
             oeq_prepare(bands, memory.lent, memory.length);
+            tree_prepare(&tree, bands);
             while (n < length) {
                 size_t cut = random_cut();
-                both(tree, memory, n, cut, random_below(4) ? kind : (int)random_below(7));
+                both(&tree, memory, n, cut, random_below(4) ? kind : (int)random_below(7));
                 n += (long)cut;
             }
-            check_memory(tree, memory.lent, 0, n - 1);
+            check_memory(&tree, memory.lent);
             places_free(memory);
-            tree_free(tree);
         }
 }
 
@@ -160,25 +160,21 @@ void wild_memories(int rounds)
     for (int round = 0; round < rounds; round++)
         for (int bands = 2; bands <= 10; bands++) {
             int kind = (int)random_below(4);
-            long size = 9L * (1L << (bands - 1)), start = round == 0 ? size - 1 : (long)random_below((uint32_t)size);
-            long length = bands < 7 ? 3 * size : 200 + (long)random_below(400), n = 0;
-            struct tree *tree = tree_new(bands, size, length + MOST_BLOCK);
+            long size = line_length(bands), length = bands < 7 ? 3 * size : 200 + (long)random_below(400), n = 0;
             struct places memory = places_new((size_t)length_of(bands));
+            tree_prepare(&tree, bands);
+            tree.position = round == 0 ? (int)size - 1 : (int)random_below((uint32_t)size);
             memory.lent[0] = bands;
-            memory.lent[1] = (int32_t)start;
-            for (int k = bands, line = 0; k >= 2; k--, line++)
-                for (long back = 1; back <= size; back++) {
-                    int32_t value = wild(kind);
-                    memory.lent[2 + line * size + (start - back + size) % size] = value;
-                    tree->line[k][tree->past - back] = value;
-                }
+            memory.lent[1] = tree.position;
+            for (int line = 0; line < bands - 1; line++)
+                for (long i = 0; i < size; i++)
+                    memory.lent[2 + line * size + i] = tree.line[line][i] = wild(kind);
             while (n < length) {
                 size_t cut = 1 + random_below(200);
-                both(tree, memory, n, cut, (int)random_below(7));
+                both(&tree, memory, n, cut, (int)random_below(7));
                 n += (long)cut;
             }
-            check_memory(tree, memory.lent, start, n - 1);
+            check_memory(&tree, memory.lent);
             places_free(memory);
-            tree_free(tree);
         }
 }

@@ -2,47 +2,50 @@
 use Prim.Native.Nat.{ℕ}
 use lib.IntN.{ℤ, pos, negsuc}
 
--- the least and the largest number of bands
+-- rule 1.3: the least and the largest number of bands
 abbrev pub fewestBands : ℤ
 fewestBands = pos 2
 
+-- rule 1.3: the largest number of bands
 abbrev pub mostBands : ℤ
 mostBands = pos 10
 
--- the ends of the sample range, 24 bits
+-- rule 1.1: the ends of the sample range, 24 bits
 abbrev pub leastSample : ℤ
 leastSample = negsuc 8388607
 
+-- rule 1.1: the other end
 abbrev pub mostSample : ℤ
 mostSample = pos 8388607
 
--- the largest magnitude of a sample
+-- rule 1.1: the largest magnitude of a sample
 abbrev pub largestSample : ℕ
 largestSample = 8388608
 
--- the ends of a lent place, 32 bits
+-- rule 5.1: the ends of a lent place, 32 bits
 abbrev pub leastPlace : ℤ
 leastPlace = negsuc 2147483647
 
+-- rule 5.1: the other end
 abbrev pub mostPlace : ℤ
 mostPlace = pos 2147483647
 
--- gains go from 0 to here
+-- rule 1.2: gains go from 0 to here
 abbrev pub largestGain : ℕ
 largestGain = 16384
 
--- the gain that changes nothing
+-- rule 1.2: the gain that changes nothing
 abbrev pub unity : ℕ
 unity = 4096
 
--- the most samples of a block
+-- rule 1.4: the most samples of a block
 abbrev pub blockLimit : ℕ
 blockLimit = 4096
 
--- the most bytes that a header's reader looks at
+-- rule 8.2: the most bytes that a header's reader looks at
 abbrev pub frontLength : ℕ
 frontLength = 4096
 
--- the most bytes of samples that a header states: its RIFF length, 36 more, stays below 2^32
+-- rule 6.8, header writer: the most bytes of samples that a header states: its RIFF length, 36 more, stays below 2^32
 abbrev pub largestData : ℕ
 largestData = 4294967259

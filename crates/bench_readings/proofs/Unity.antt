@@ -1,4 +1,4 @@
--- "both 4,096: 0 everywhere but 100,000 at 9", at every n and not only at those of the table. Assumes nothing.
+-- With both gains at unity the output is 0 but for 100,000 at 9, at every n and not only at those of the table. Assumes nothing.
 use mathlib.Core.Path.{_≡_, refl, ap, _∙_}
 use mathlib.Core.List.{[], _∷_}
 use Prim.Native.Nat.{ℕ, zero, suc, _≤_}

@@ -1,1 +1,1 @@
-// 01, Bench readings, those marked P: one table (specs/) and one proof over it (proofs/). No code stands here.
+// The bench readings marked P (rule 14.2): one table (specs/) and one proof over it (proofs/). No code stands here.

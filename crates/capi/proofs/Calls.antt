@@ -4,44 +4,55 @@ use mathlib.Core.Path.{_≡_}
 use mathlib.Core.List.{List}
 use Prim.Native.Nat.{ℕ}
 use lib.IntN.{ℤ}
-use Rattle.octave.specs.Memory.{memoryLengthOf, prepareOf}
+use Rattle.answers.specs.Answer.{Answer}
+use Rattle.octave.specs.Answer.{lengthAnswer, preparedAnswer, blockAnswer}
 use Rattle.octave.specs.Block.{blockOf}
-use Rattle.gain.specs.Promise.{answerTo}
+use Rattle.octave.specs.Memory.{memoryLengthOf, prepareOf}
+use Rattle.gain.specs.Answer.{answerOf}
+use Rattle.gain.specs.Promise.{commandGain}
 use Rattle.gain.specs.declared.Command.{Command}
-use Rattle.wave.specs.Header.{writeOf}
-use Rattle.wave.specs.Sample.{fromBytes, toBytes}
+use Rattle.wave.specs.Header.{writeOf, writeAnswer}
+use Rattle.wave.specs.Sample.{fromBytes, toBytes, sampleAnswer, putAnswer}
 use Rattle.wave.specs.Walk.{readOf}
+use Rattle.capi.specs.Answers.{ofCount}
 use Rattle.capi.specs.Encode.{encode, decode}
-use Rattle.capi.specs.Answers.{ofOctave, ofGain, ofCount, ofSample, ofFound}
+use Rattle.capi.specs.Found.{ofFound}
+use Rattle.capi.specs.Parts.{Returnable, Counted}
 use Rattle.capi.proofs.Decoded.{decode-encode}
-use Rattle.capi.proofs.Fine.{length-fine, prepare-fine, block-fine, gain-apart, write-fine, put-fine, sample-apart}
-use Rattle.capi.proofs.Read.{read-apart}
+use Rattle.capi.proofs.Encoding.{returnable-apart, counted-apart}
+use Rattle.capi.proofs.Reading.{read-returnable}
+use Rattle.capi.proofs.Returnable.{length-counted, prepare-counted, block-counted, gain-returnable, write-counted, sample-returnable, put-counted}
 
-pub length-decoded : (bands : ℤ) → decode (encode (ofOctave (memoryLengthOf bands))) ≡ ofOctave (memoryLengthOf bands)
-length-decoded bands = decode-encode (ofOctave (memoryLengthOf bands)) (length-fine bands .apart)
+-- an answer that comes back as it went in
+abbrev pub Decoded : Answer ℤ → Type 0
+Decoded a = decode (encode a) ≡ a
 
-pub prepare-decoded :
-    (bands : ℤ) (memory : List ℤ) → decode (encode (ofOctave (prepareOf bands memory .answer))) ≡ ofOctave (prepareOf bands memory .answer)
-prepare-decoded bands memory = decode-encode (ofOctave (prepareOf bands memory .answer)) (prepare-fine bands memory .apart)
+decoded : (a : Answer ℤ) → Returnable a → Decoded a
+decoded a h = decode-encode a (returnable-apart a h)
 
-pub block-decoded :
-    (memory gains input output : List ℤ)
-    → decode (encode (ofOctave (blockOf memory gains input output .answer))) ≡ ofOctave (blockOf memory gains input output .answer)
-block-decoded memory gains input output =
-    decode-encode (ofOctave (blockOf memory gains input output .answer)) (block-fine memory gains input output .apart)
+count-decoded : (a : Answer ℕ) → Counted a → Decoded (ofCount a)
+count-decoded a h = decode-encode (ofCount a) (counted-apart a h)
 
-pub gain-decoded : (c : Command) → decode (encode (ofGain (answerTo c))) ≡ ofGain (answerTo c)
-gain-decoded c = decode-encode (ofGain (answerTo c)) (gain-apart c)
+pub length-decoded : (bands : ℤ) → Decoded (ofCount (lengthAnswer (memoryLengthOf bands)))
+length-decoded bands = count-decoded (lengthAnswer (memoryLengthOf bands)) (length-counted bands)
 
-pub read-decoded : (front : List ℕ) → decode (encode (ofFound (readOf front))) ≡ ofFound (readOf front)
-read-decoded front = decode-encode (ofFound (readOf front)) (read-apart front)
+pub prepare-decoded : (bands : ℤ) (memory : List ℤ) → Decoded (ofCount (preparedAnswer (prepareOf bands memory .result)))
+prepare-decoded bands memory = count-decoded (preparedAnswer (prepareOf bands memory .result)) (prepare-counted bands memory)
 
-pub write-decoded :
-    (buffer : List ℕ) (rate size : ℕ) → decode (encode (ofCount (writeOf buffer rate size .0))) ≡ ofCount (writeOf buffer rate size .0)
-write-decoded buffer rate size = decode-encode (ofCount (writeOf buffer rate size .0)) (write-fine buffer rate size .apart)
+pub block-decoded : (memory gains input output : List ℤ) → Decoded (ofCount (blockAnswer (blockOf memory gains input output .result)))
+block-decoded memory gains input output = count-decoded (blockAnswer (blockOf memory gains input output .result)) (block-counted memory gains input output)
 
-pub sample-decoded : (bytes : List ℕ) → decode (encode (ofSample (fromBytes bytes))) ≡ ofSample (fromBytes bytes)
-sample-decoded bytes = decode-encode (ofSample (fromBytes bytes)) (sample-apart bytes)
+pub gain-decoded : (c : Command) → Decoded (answerOf (commandGain c))
+gain-decoded c = decoded (answerOf (commandGain c)) (gain-returnable c)
 
-pub put-decoded : (z : ℤ) (buffer : List ℕ) → decode (encode (ofCount (toBytes z buffer .0))) ≡ ofCount (toBytes z buffer .0)
-put-decoded z buffer = decode-encode (ofCount (toBytes z buffer .0)) (put-fine z buffer .apart)
+pub read-decoded : (front : List ℕ) → Decoded (ofFound (readOf front))
+read-decoded front = decoded (ofFound (readOf front)) (read-returnable front)
+
+pub write-decoded : (buffer : List ℕ) (rate size : ℕ) → Decoded (ofCount (writeAnswer (writeOf buffer rate size .result)))
+write-decoded buffer rate size = count-decoded (writeAnswer (writeOf buffer rate size .result)) (write-counted buffer rate size)
+
+pub sample-decoded : (bytes : List ℕ) → Decoded (sampleAnswer (fromBytes bytes))
+sample-decoded bytes = decoded (sampleAnswer (fromBytes bytes)) (sample-returnable bytes)
+
+pub put-decoded : (z : ℤ) (buffer : List ℕ) → Decoded (ofCount (putAnswer (toBytes z buffer .result)))
+put-decoded z buffer = count-decoded (putAnswer (toBytes z buffer .result)) (put-counted z buffer)

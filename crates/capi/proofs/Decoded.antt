@@ -6,8 +6,9 @@ use native.Mathlib.Omega.{arith}
 use borrow.Author.Tests.{lt-ltb, le-ltb}
 use lib.IntN.{ℤ, pos, natAbs, _+ℤ_, _-ℤ_}
 use lib.Signed.{ltZ}
-use Rattle.capi.specs.Encode.{Answer, accepted, refused, least, halfway, encode, decode, Apart}
-use Rattle.capi.proofs.Codes.{above-least}
+use Rattle.answers.specs.Answer.{Answer, accepted, refused}
+use Rattle.capi.specs.Encode.{least, halfway, encode, decode, Apart}
+use Rattle.capi.proofs.Encoding.{above-least}
 
 -- ---- a refusal's code
 
@@ -33,7 +34,7 @@ module _ (k : ℕ) (h : k < 2 ^ 62) where
 
 -- ---- decoding
 
-pub decode-encode : (a : Answer) → Apart a → decode (encode a) ≡ a
+pub decode-encode : (a : Answer ℤ) → Apart a → decode (encode a) ≡ a
 unfolding encode decode
 decode-encode (accepted z) h = rw h
 decode-encode (refused number place) h =
@@ -44,13 +45,13 @@ decode-encode (refused number place) h =
     (ap₂ refused (number-back number place (h .0) (h .1)) (place-back number place (h .0) (h .1)))
 
 -- one code stands for one answer
-pub encode-one : (a b : Answer) → Apart a → Apart b → encode a ≡ encode b → a ≡ b
+pub encode-one : (a b : Answer ℤ) → Apart a → Apart b → encode a ≡ encode b → a ≡ b
 encode-one a b h g e = sym (decode-encode a h) ∙ ap decode e ∙ decode-encode b g
 
-accepted-not-refused : (z : ℤ) (number place : ℕ) → accepted z ≡ refused number place → ⊥
+accepted-not-refused : (z : ℤ) (number place : ℕ) → _≡_ {A = Answer ℤ} (accepted z) (refused number place) → ⊥
 accepted-not-refused z number place e = let n : _≡_ {A = ℕ} 0 1 = cc in omega arith
 
--- "no accepted answer is near it": a refusal is never an accepted answer's code
+-- a refusal is never an accepted answer's code
 pub never-meets :
     (z : ℤ) (number place : ℕ) → Apart (accepted z) → Apart (refused number place) → encode (accepted z) ≡ encode (refused number place) → ⊥
 never-meets z number place h g e = accepted-not-refused z number place (encode-one (accepted z) (refused number place) h g e)

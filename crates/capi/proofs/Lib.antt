@@ -1,6 +1,5 @@
--- What the exports' proofs cite, and what a caller may conclude: each call's answer can be decoded.
-pub mod Codes
+pub mod Encoding
 pub mod Decoded
-pub mod Fine
-pub mod Read
+pub mod Returnable
+pub mod Reading
 pub mod Calls

@@ -1,42 +1,17 @@
--- The answers of the libraries' calls, as the C interface returns them: the same number or the same refusal, at place 0.
-use Prim.Native.Nat.{ℕ, _<_, _^_}
+-- What a C caller gets of a call: its answer as one number, and the places lent to it.
+use mathlib.Core.Path.{_≡_}
+use Prim.Native.Nat.{ℕ}
 use lib.IntN.{ℤ, pos}
-use Rattle.octave.specs.Answer as octave
-use Rattle.gain.specs.Answer as gain
-use Rattle.wave.specs.Answer as wave
-use Rattle.wave.specs.Walk.{Found}
-use Rattle.capi.specs.Encode.{Answer, accepted, refused}
+use Rattle.answers.specs.Answer.{Answer, accepted, refused}
+use Rattle.answers.specs.Checks.{Outcome}
+use Rattle.capi.specs.Encode.{encode}
 
--- a length, a delay or a number of samples
-abbrev pub ofOctave : octave.Answer → Answer
-ofOctave (octave.accepted n) = accepted (pos n)
-ofOctave (octave.refused number) = refused number 0
+-- rule 12.2: a length, a delay, a number of samples or of bytes
+abbrev pub ofCount : Answer ℕ → Answer ℤ
+ofCount (accepted n) = accepted (pos n)
+ofCount (refused number place) = refused number place
 
--- a gain
-abbrev pub ofGain : gain.Answer → Answer
-ofGain (gain.accepted g) = accepted g
-ofGain (gain.refused number) = refused number 0
-
--- a number of bytes
-abbrev pub ofCount : wave.Answer ℕ → Answer
-ofCount (wave.accepted n) = accepted (pos n)
-ofCount (wave.refused number) = refused number 0
-
--- a sample
-abbrev pub ofSample : wave.Answer ℤ → Answer
-ofSample (wave.accepted z) = accepted z
-ofSample (wave.refused number) = refused number 0
-
--- what was found goes to the lent places; the answer is their number, 4
-abbrev pub ofFound : wave.Answer Found → Answer
-ofFound (wave.accepted f) = accepted (pos 4)
-ofFound (wave.refused number) = refused number 0
-
--- a count fits 64 bits with a sign; what each call answers does
-abbrev pub Counted : octave.Answer → Type 0
-Counted (octave.accepted n) = n < 2 ^ 63
-Counted (octave.refused number) = Unit
-
-abbrev pub CountedBytes : wave.Answer ℕ → Type 0
-CountedBytes (wave.accepted n) = n < 2 ^ 63
-CountedBytes (wave.refused number) = Unit
+-- rule 12.8: a call's answer is returned encoded, and the places lent to it are as the call leaves them
+pub record Returned {R L : Type 0} (answerOf : R → Answer ℤ) (o : Outcome R L) (code : ℤ) (lent : L) : Type 0 where
+  pub code-is : code ≡ encode (answerOf (o .result))
+  pub lent-is : lent ≡ o .lent

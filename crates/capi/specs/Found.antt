@@ -1,11 +1,17 @@
--- The four lent places of the header reader: "found[4]: rate, bits, length, start".
+-- The header reader's answer and its four lent places: rate, bits, length, start.
 use mathlib.Core.List.{List}
 use Prim.Native.Nat.{ℕ}
+use lib.IntN.{ℤ, pos}
 use lib.ListN.{set}
-use Rattle.wave.specs.Answer.{Answer, accepted, refused}
+use Rattle.answers.specs.Answer.{Answer, accepted, refused}
 use Rattle.wave.specs.Walk.{Found}
 
--- the places afterwards: each of the four is set, and a refusal leaves them as they were
+-- rule 12.7: what was found goes to the lent places; the answer is their number, 4
+abbrev pub ofFound : Answer Found → Answer ℤ
+ofFound (accepted f) = accepted (pos 4)
+ofFound (refused number place) = refused number place
+
+-- rule 12.7: the places afterwards: each of the four is set, and a refusal leaves them as they were
 abbrev pub foundAfter : Answer Found → List ℕ → List ℕ
 foundAfter (accepted f) before = set (set (set (set before 0 (f .rate)) 1 (f .bits)) 2 (f .size)) 3 (f .start)
-foundAfter (refused number) before = before
+foundAfter (refused number place) before = before

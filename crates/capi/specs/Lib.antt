@@ -2,3 +2,4 @@
 pub mod Encode
 pub mod Answers
 pub mod Found
+pub mod Parts

@@ -2,23 +2,31 @@
 ghost use mathlib.Core.Path.{_≡_};
 ghost use Prim.Native.Nat.{_<_, _^_};
 ghost use lib.IntN.{pos};
-ghost use Rattle.capi.specs.Encode.{encode, refused};
+ghost use Rattle.capi.specs.Parts.{encodeParts};
 
-pub(crate) fn refusal(number: u8) -> i64
-    ensures { λ r. ⌜ r ≡ encode (refused number 0) ⌝ }
+// An answer from its parts: its value where the number is 0, else a refusal with that number at that place.
+pub(crate) fn encoded(number: u8, place: usize, value: i64) -> i64
+    requires { ⌜ place < 2 ^ 54 ⌝ }
+    ensures { λ r. ⌜ r ≡ encodeParts number place value ⌝ }
 {
-    -9223372036854775808 + number as i64
+    if number == 0 {
+        return value;
+    }
+    -9223372036854775808 + (number as usize + 256 * place) as i64
 }
 
-pub(crate) fn count(n: usize) -> i64
-    requires { ⌜ n < 2 ^ 63 ⌝ }
-    ensures { λ r. ⌜ r ≡ pos n ⌝ }
+// A count, from its number and its value.
+pub(crate) fn counted(number: u8, place: usize, n: usize) -> i64
+    requires { ⌜ (place < 2 ^ 54) × (n < 2 ^ 63) ⌝ }
+    ensures { λ r. ⌜ r ≡ encodeParts number place (pos n) ⌝ }
 {
-    n as i64
+    encoded(number, place, n as i64)
 }
 
-pub(crate) fn signed(z: i32) -> i64
-    ensures { λ r. ⌜ r ≡ z ⌝ }
+// A signed answer, from its number and its value.
+pub(crate) fn signed(number: u8, place: usize, z: i32) -> i64
+    requires { ⌜ place < 2 ^ 54 ⌝ }
+    ensures { λ r. ⌜ r ≡ encodeParts number place z ⌝ }
 {
-    z as i64
+    encoded(number, place, z as i64)
 }

@@ -1,6 +1,12 @@
 // What the gain command answers to the floats below, to the floats next to them, and to the negatives of all of these.
 use gain::Command;
 use gain::Gained;
+use printing::Answer;
+use printing::line;
+use printing::text;
+use printing::told;
+ghost use mathlib.Core.Path.{_≡_};
+ghost use Rattle.gain_readings.specs.Told.{shownAs};
 
 // 0, 0.5, 1, 1.5, .. 12, as bit patterns: the half decibels.
 const HALVES: [u32; 25] = [
@@ -72,40 +78,38 @@ fn float(bits: u32) -> f32 {
     }
 }
 
-fn size(gain: i32) -> u64 {
-    if gain < 0 { 0 } else { gain as u64 }
+// A gain without its sign, or the number of the refusal.
+fn answered(answer: Gained) -> Answer
+    ensures { λ r. ⌜ r ≡ shownAs answer ⌝ }
+{
+    match answer {
+        Gained::Gain(gain) => Answer::Accepted(printing::magnitude(gain)),
+        Gained::NotHalfDecibels => Answer::Refused(11),
+        Gained::NotFactor => Answer::Refused(12),
+    }
 }
 
 fn write(answer: Gained) {
-    match answer {
-        Gained::Gain(gain) => {
-            io::write_all(1, b" gain ");
-            io::print_decimal(1, size(gain));
-        }
-        Gained::NotHalfDecibels => {
-            io::write_all(1, b" refused 11");
-        }
-        Gained::NotFactor => {
-            io::write_all(1, b" refused 12");
-        }
-    }
-    io::write_all(1, b"\n");
+    told(answered(answer));
+    line();
 }
 
 fn command(decibels: bool, x: f32) -> Command {
     if decibels {
-        io::write_all(1, b"decibels ");
         Command::Decibels(x)
     } else {
-        io::write_all(1, b"factor ");
         Command::Factor(x)
     }
 }
 
 fn one(decibels: bool, bits: u32) {
-    let asked = command(decibels, float(bits));
-    io::print_hex(1, bits as u64, 8);
-    write(gain::gain(asked));
+    if decibels {
+        text(b"decibels");
+    } else {
+        text(b"factor");
+    }
+    printing::pattern(bits);
+    write(gain::gain(command(decibels, float(bits))));
 }
 
 fn beside(decibels: bool, bits: u32) {
@@ -127,6 +131,6 @@ fn main() {
     each(true, &NO_HALVES);
     each(false, &TIES);
     each(false, &ENDS);
-    io::write_all(1, b"off");
+    text(b"off");
     write(gain::gain(Command::Off));
 }

@@ -9,7 +9,7 @@ use lib.ListN.{length, length-append, List·getD-eq-default}
 use lib.IntN.{ℤ, pos, negℤ, natAbs, _-ℤ_, _*ℤ_}
 use lib.Signed.{_<ℤ_, leZ-yes}
 use Rattle.whole.specs.Nearest.{nearest}
-use Rattle.answers.specs.Unit.{leastSample, mostSample, leastPlace, mostPlace, largestGain}
+use Rattle.answers.specs.Unit.{leastSample, mostSample, leastPlace, mostPlace, largestGain, unity}
 use Rattle.answers.proofs.Ranges.{all-at}
 use Rattle.whole.specs.Limit.{limit}
 use Rattle.whole.proofs.Signed.{var, lit, le-by}
@@ -75,21 +75,21 @@ module _ (M : ℕ) (least : 2 ≤ M) (most : M ≤ 10) (cs : List Call) (all : A
   allowed m _ _ = carried-allowed (prepared M) cs all n inside m
 
   -- rule 11.5: |4,096·P·(output - exact output)| ≤ 2,048·P + slack
-  pub written-near : natAbs (pos (4096 * commonScale M) *ℤ written M cs n -ℤ exact M cs n) ≤ 2048 * commonScale M + slack published M (carried cs) n
+  pub written-near : natAbs (pos (unity * commonScale M) *ℤ written M cs n -ℤ exact M cs n) ≤ 2048 * commonScale M + slack published M (carried cs) n
   written-near = rw is (distance published M (carried cs) (signalOf (joined cs)) n (omega arith))
 
   -- rule 11.6: never past 302 steps
-  pub written-within-302 : natAbs (pos (4096 * commonScale M) *ℤ written M cs n -ℤ exact M cs n) ≤ farthest * (4096 * commonScale M)
+  pub written-within-302 : natAbs (pos (unity * commonScale M) *ℤ written M cs n -ℤ exact M cs n) ≤ farthest * (unity * commonScale M)
   written-within-302 = rw is (never-past-302 M least most (carried cs) (signalOf (joined cs)) n allowed)
 
   -- rule 11.7: equal gains
   pub written-equal : (G : ℤ) → ((m : ℕ) → 1 ≤ m → m ≤ M → carried cs n m ≡ G) →
-      written M cs n ≡ limit leastSample mostSample (nearest 4096 (G *ℤ back (signalOf (joined cs)) n (delay published M)))
+      written M cs n ≡ limit leastSample mostSample (nearest unity (G *ℤ back (signalOf (joined cs)) n (delay published M)))
   written-equal G e = is ∙ equal-gains published M G (carried cs) (signalOf (joined cs)) n (omega arith) e
 
   -- rule 11.8, no crack: a loud sample never turns over
-  pub loud-above : pos (farthest * (4096 * commonScale M)) <ℤ exact M cs n → pos 0 <ℤ written M cs n
+  pub loud-above : pos (farthest * (unity * commonScale M)) <ℤ exact M cs n → pos 0 <ℤ written M cs n
   loud-above h = rw is (above-stays-above M least most (carried cs) (signalOf (joined cs)) n allowed h)
 
-  pub loud-below : exact M cs n <ℤ negℤ (pos (farthest * (4096 * commonScale M))) → written M cs n <ℤ pos 0
+  pub loud-below : exact M cs n <ℤ negℤ (pos (farthest * (unity * commonScale M))) → written M cs n <ℤ pos 0
   loud-below h = rw is (below-stays-below M least most (carried cs) (signalOf (joined cs)) n allowed h)

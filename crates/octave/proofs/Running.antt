@@ -14,7 +14,7 @@ use mir.Syntax.{w32, w64}
 use mir.Val.{SFits}
 use mir.Facts.{toZ-ofZ}
 use Rattle.whole.specs.Nearest.{nearest}
-use Rattle.answers.specs.Unit.{leastSample, mostSample}
+use Rattle.answers.specs.Unit.{leastSample, mostSample, unity}
 use Rattle.whole.specs.Limit.{limit}
 use Rattle.whole.proofs.Signed.{var, lit, _⊖_, _⊗_, eq-by, about}
 use Rattle.whole.proofs.Limit.{limit24-fits}
@@ -30,18 +30,18 @@ no-gain-above : (s a : ℤ) {h : ℤ} → h ≡ pos 0 → s -ℤ h *ℤ a ≡ s
 no-gain-above s a {h} e = rw e (eq-by (var s ⊖ lit 0 ⊗ var a) (var s) (omega arith))
 
 pub answer-is : (bands size at : ℕ) (ds lines ys : List ℤ) (x s n r : ℤ) → bands ≤ 10 →
-    StepDone published bands size at 1 ds lines x ys s → n ≡ nearest 4096 (raw w64 s) → r ≡ limit leastSample mostSample (raw w64 n) →
+    StepDone published bands size at 1 ds lines x ys s → n ≡ nearest unity (raw w64 s) → r ≡ limit leastSample mostSample (raw w64 n) →
     AnsweredUnder published bands size at ds lines x ys (raw w32 r)
 unfolding answered
 answer-is bands size at ds lines ys x s n r few d en er =
     let s-back : raw w64 s ≡ s = toZ-ofZ (record { sfits = omega (arith, about s, d .bounded) }) in
-    let n-is : n ≡ nearest 4096 s = en ∙ ap (nearest 4096) s-back in
+    let n-is : n ≡ nearest unity s = en ∙ ap (nearest unity) s-back in
     let n-back : raw w64 n ≡ n = toZ-ofZ (rw n-is (nearest-fits 4096 (lit< tt) (lit≤ tt) s (omega (arith, d .bounded)))) in
     let r-is : r ≡ outOf s = er ∙ ap (limit leastSample mostSample) (n-back ∙ n-is) in
     record {
       under = λ g q top. record {
         places-are = d .places-are g;
-        sample-is = toZ-ofZ (rw r-is (limit24-fits (nearest 4096 s))) ∙ r-is ∙ ap outOf (d .sum-is g q ∙ no-gain-above (step published bands size at 1 g lines x .sum) (step published bands size at 1 g lines x .aligned) top);
+        sample-is = toZ-ofZ (rw r-is (limit24-fits (nearest unity s))) ∙ r-is ∙ ap outOf (d .sum-is g q ∙ no-gain-above (step published bands size at 1 g lines x .sum) (step published bands size at 1 g lines x .aligned) top);
       };
     }
 

@@ -9,6 +9,7 @@ use lib.ListN.{length, getD}
 use lib.IntN.{ℤ, pos, natAbs, _-ℤ_, _*ℤ_}
 use lib.Signed.{leZ-yes}
 use Rattle.whole.specs.Sum.{sum}
+use Rattle.answers.specs.Unit.{unity}
 use Rattle.tree.specs.Prototype.{published}
 use Rattle.tree.specs.Signal.{Signal, back, signalOf, gainOf}
 use Rattle.tree.specs.Tree.{weighted, band, holdBack, gainSum, delay}
@@ -29,10 +30,10 @@ use Rattle.octave.proofs.Calls.{accepted-ran}
 
 -- the low band alone, and the high band alone
 abbrev low-alone : List ℤ
-low-alone = pos 4096 ∷ pos 0 ∷ []
+low-alone = pos unity ∷ pos 0 ∷ []
 
 abbrev high-alone : List ℤ
-high-alone = pos 0 ∷ pos 4096 ∷ []
+high-alone = pos 0 ∷ pos unity ∷ []
 
 -- ---- refuse everything: a call without a fault is not refused
 
@@ -58,18 +59,18 @@ high-allowed (suc (suc (suc m))) l h = absurd (omega arith)
 abbrev Near : (ℕ → (ℕ → ℕ → ℤ) → Signal → ℕ → ℤ) → Type 0
 Near f =
     (M : ℕ) → 2 ≤ M → M ≤ 10 → (g : ℕ → ℕ → ℤ) (x : Signal) (n : ℕ) → AllowedGains M g n →
-    natAbs (pos (4096 * commonScale M) *ℤ f M g x n -ℤ exactOutput published M g x n) ≤ farthest * (4096 * commonScale M)
+    natAbs (pos (unity * commonScale M) *ℤ f M g x n -ℤ exactOutput published M g x n) ≤ farthest * (unity * commonScale M)
 
 pub all-zeros : Near (λ M g x n. pos 0) → ⊥
 unfolding exactOutput gainSum exactLevel weighted sum band holdBack
 all-zeros near =
-    let h : 4096 * 50000 * 8000000 ≤ farthest * (4096 * commonScale 2) = near 2 (lit≤ tt) (lit≤ tt) (λ _. gainOf low-alone) (signalOf (pos 8000000 ∷ [])) 9 low-allowed in
+    let h : unity * 50000 * 8000000 ≤ farthest * (unity * commonScale 2) = near 2 (lit≤ tt) (lit≤ tt) (λ _. gainOf low-alone) (signalOf (pos 8000000 ∷ [])) 9 low-allowed in
     omega arith
 
 pub delayed-input : Near (λ M g x n. back x n (delay published M)) → ⊥
 unfolding exactOutput gainSum exactLevel weighted sum band holdBack
 delayed-input near =
-    let h : 4096 * 50000 * 8000000 ≤ farthest * (4096 * commonScale 2) = near 2 (lit≤ tt) (lit≤ tt) (λ _. gainOf high-alone) (signalOf (pos 8000000 ∷ [])) 9 high-allowed in
+    let h : unity * 50000 * 8000000 ≤ farthest * (unity * commonScale 2) = near 2 (lit≤ tt) (lit≤ tt) (λ _. gainOf high-alone) (signalOf (pos 8000000 ∷ [])) 9 high-allowed in
     omega arith
 
 -- ---- touch nothing: the first output of 100,000 is 313, and not what the output block held

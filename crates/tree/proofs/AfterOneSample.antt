@@ -1,5 +1,5 @@
--- What a weighted sum at stretch L gives after a single sample a: c(i)·a at L·i, and 0 between. 01, Misbuilds: "Stretching by repeating
--- coefficients; the gaps are zeros." Assumes nothing.
+-- What a weighted sum at stretch L gives after a single sample a: c(i)·a at L·i, and 0 between (rule 3.3): a
+-- stretch that repeats coefficients is ruled out. Assumes nothing.
 use mathlib.Core.Path.{_≡_, refl, ap, _∙_}
 use mathlib.Core.List.{[], _∷_, map}
 use Prim.Native.Nat.{ℕ, zero, suc, _-_, _*_, _<_}

@@ -1,4 +1,4 @@
--- 01, Exact output and allowance: a line is no further from the exact line than its allowance E. Assumes nothing.
+-- A line is no further from the exact line than its allowance E (rule 4.6). Assumes nothing.
 use mathlib.Core.Path.{_≡_, ap, _∙_}
 use Prim.Native.Nat.{ℕ, zero, suc, _+_, _-_, _*_, _/_, _^_, _≤_}
 use native.Mathlib.Nat.{le-refl, le-trans, add-le-add, mul-le-mul-left, pow-succ', mul-comm}

@@ -8,7 +8,7 @@ use lib.Pow.{pow-mono}
 use Rattle.tree.specs.Prototype.{Prototype, published}
 use Rattle.tree.specs.Tree.{delay, holdBack}
 
--- "9 for two bands, 1,143 for eight, 4,599 for ten", and those between
+-- rule 3.7: 9 for two bands, .., 1,143 for eight, .., 4,599 for ten
 pub delays : map (delay published) (2 ∷ 3 ∷ 4 ∷ 5 ∷ 6 ∷ 7 ∷ 8 ∷ 9 ∷ 10 ∷ []) ≡ 9 ∷ 27 ∷ 63 ∷ 135 ∷ 279 ∷ 567 ∷ 1143 ∷ 2295 ∷ 4599 ∷ []
 delays = refl
 

@@ -1,5 +1,4 @@
--- 01, Exact output and allowance: "the distance between 4,096·P times the output and 4,096·P times the exact output is at most
--- 2,048·P plus the sum over k = 1..M-1 of |gain(k+1) - gain(k)|·E(k)·100,000^(k-1)". Assumes nothing.
+-- The distance (rule 4.9): |4,096·P·output - 4,096·P·(exact output)| ≤ 2,048·P + slack. Assumes nothing.
 use mathlib.Core.Path.{_≡_, refl}
 use Prim.Native.Nat.{ℕ, suc, _+_, _-_, _*_, _/_, _^_, _≤_, _<_}
 use native.Mathlib.Nat.{le-refl, le-trans, add-le-add, mul-le-mul-left, mul-comm, sub-self, mul-zero, zero-mul, zero-add, add-zero, one-le-pow}
@@ -47,11 +46,11 @@ module _ (p : Prototype) (M : ℕ) (g : ℕ → ℕ → ℤ) (x : Signal) (n : �
       error : ℕ → ℕ
       error k = allowance p M k * scale ^ (k - 1)
 
-      -- "E(M) = 0"
+      -- E(M) = 0
       no-top : natAbs (g n M) * error M ≡ 0
       no-top = rw (sub-self M, zero-mul (scale ^ (M - 1)), mul-zero (natAbs (g n M))) refl
 
-  -- "With P = 100,000^(M-1)"
+  -- P = 100,000^(M-1)
   pub distance :
       natAbs (pos (unity * commonScale M) *ℤ output p M g x n -ℤ exactOutput p M g x n) ≤ unity / 2 * commonScale M + slack p M g n
   unfolding output exactOutput

@@ -1,4 +1,4 @@
--- 01, demand 3: "Equal gains: that gain times the input, late by the stated delay, rounded once, limited." Assumes nothing.
+-- Equal gains (rule 11.7): that gain times the delayed input, rounded once and limited; no error of the lines is left. Assumes nothing.
 use mathlib.Core.Path.{_≡_, ap, ap₂, _∙_}
 use Prim.Native.Nat.{ℕ, suc, _-_, _*_, _^_, _≤_}
 use native.Mathlib.Nat.{sub-self}

@@ -26,7 +26,7 @@ every-at (suc n) f t i h = by (every-at n f (both (every n f) (f n) t .0) i) (eq
         let other : i ≡ n → ⊥ = eqb-false i n e in
         rest (omega arith)
 
--- "bands M from 2 to 10": the nine counts
+-- rule 1.3: the nine counts of bands, 2 to 10
 pub for-each-count : (f : ℕ → Bool) → T (every 9 (λ i. f (i + 2))) → (M : ℕ) → 2 ≤ M → M ≤ 10 → T (f M)
 for-each-count f t M l h = subst (λ (k : ℕ). T (f k)) there (every-at 9 (λ i. f (i + 2)) t (M - 2) (omega arith))
   where

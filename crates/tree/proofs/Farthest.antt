@@ -1,5 +1,5 @@
--- Demand 3, for 01's table: an output is "never past 302 steps" from the exact output. 01, Exact output and allowance: "For ten
--- bands E(1) is under 25 steps, and all nine together are under 75.4." Assumes nothing.
+-- An output is never past 302 steps from the exact output, for the table in use (rule 11.6), since all allowances together are under
+-- 75.4 steps (rule 4.7). Assumes nothing.
 use mathlib.Core.Bool.{Bool}
 use Prim.Native.Nat.{ℕ, suc, _+_, _-_, _*_, _/_, _^_, _≤_, _<_}
 use native.Mathlib.Nat.{le-trans, add-le-add, le-refl, mul-le-mul-right, mul-comm}
@@ -44,12 +44,12 @@ module _ (p : Prototype) (M : ℕ) (g : ℕ → ℕ → ℤ) (n : ℕ) (allowed 
 
 -- ---- the published table
 
--- "For ten bands E(1) is under 25 steps"
+-- rule 4.7: E(1) of ten bands
 pub lowest-under-25 : allowance published 10 1 < 25 * commonScale 10
 unfolding allowanceAt sumℕ
 lowest-under-25 = lit< tt
 
--- "and all nine together are under 75.4"
+-- rule 4.7: E(1) to E(9) together
 pub together-under-75-4 : 10 * together published 10 < 754 * commonScale 10
 unfolding together allowanceAt sumℕ
 together-under-75-4 = lit< tt

@@ -1,4 +1,4 @@
--- The facts of the tree, by subject. Each is proved once over M and, where it is no fact of 01's table, over the prototype.
+-- The facts of the tree, by subject. Each is proved once over M and, where it is no fact of the table in use, over the prototype.
 pub mod Table
 pub mod Back
 pub mod AfterOneSample

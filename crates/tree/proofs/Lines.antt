@@ -1,4 +1,4 @@
--- The lines as the page walks them, and what a line at n can depend on. Assumes nothing.
+-- The lines from the top down, and what a line at n can depend on. Assumes nothing.
 use mathlib.Core.Path.{_≡_, refl, ap, _∙_}
 use Prim.Native.Nat.{ℕ, zero, suc, _-_, _*_, _^_, _≤_, _<_}
 use native.Mathlib.Nat.{sub-self}
@@ -15,12 +15,12 @@ use Rattle.tree.proofs.Back.{back-cases, back-ext}
 module _ (p : Prototype) where
   -- ---- the walk from line M down
 
-  -- "Line M is the input"
+  -- rule 3.2
   pub line-top : (M : ℕ) (x : Signal) → line p M x M ≡ x
   unfolding level
   line-top M x = rw (sub-self M)
 
-  -- "For k = M down to 2, with L = 2^(M-k), line k-1 .. is the sum over i of c(i) times line k at n - L·i .."
+  -- rule 3.5
   pub line-below : (M : ℕ) (x : Signal) (k : ℕ) → k < M → line p M x k ≡ lowPass p (2 ^ (M - suc k)) (line p M x (suc k))
   unfolding level
   line-below M x k h = ap (λ (j : ℕ). level p j x) steps

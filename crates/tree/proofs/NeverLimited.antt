@@ -1,5 +1,5 @@
--- The lines of a signal within the sample range stay within 32 bits, for ten bands, so that 01's "a new line value beyond
--- 32 bits is limited to 32 bits" never acts from prepared memory. Over any prototype whose magnitudes add up to at most A.
+-- The lines of a signal within the sample range stay within 32 bits, for ten bands, so that the limit to 32 bits never acts from
+-- prepared memory (rule 5.11). Over any prototype whose magnitudes add up to at most A.
 -- Assumes nothing.
 use mathlib.Core.Path.{_≡_, refl}
 use mathlib.Core.List.{[], _∷_, map}
@@ -57,7 +57,7 @@ module _ (p : Prototype) (A : ℕ) (sized : magnitudes p ≤ A) (x : Signal) whe
 
 -- ---- the published table
 
--- "their magnitudes add up to 140,240"
+-- rule 2.4
 published-sized : magnitudes published ≤ 140240
 published-sized = rw magnitudes-add-up (le-refl 140240)
 

@@ -1,4 +1,4 @@
--- The recursive form: 01, The tree: "the low line is itself the same tree with one band fewer and the stretch doubled".
+-- The recursive reading of the gain sum (rule 3.12).
 -- Assumes nothing.
 use mathlib.Core.Path.{_≡_, sym, ap, ap₂, _∙_}
 use Prim.Native.Nat.{ℕ, zero, suc, _+_, _-_, _*_, _^_, _≤_}

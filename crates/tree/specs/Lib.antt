@@ -1,4 +1,4 @@
--- The page's tree, in its own words.
+-- The tree: rules 2 to 4.
 pub mod Prototype
 pub mod Signal
 pub mod Gains

@@ -169,7 +169,7 @@ module _ (a b : List ℕ) (d : ℕ) (alike : Alike (d + 8) a b) (data-there : At
       let answer = dataChunk (field r 4 4) d seen in
       let l : 8 ≤ length r = omega (arith, al .long) in
       let other = not-fmt (take 4 r) (data-there .named) in
-      let e₁ : chunk r d seen ≡ ends answer = sym (chunk-data r d seen l other answer (field r 4 4) (data-there .named) refl refl) in
+      let e₁ : chunk r d seen ≡ ends answer = sym (chunk-data r d seen answer (field r 4 4) l other (data-there .named) refl refl) in
       let e₂ : chunk (drop d b) d seen ≡ ends answer =
       sym (chunk-alike (d + 8 - d) r (drop d b) al d seen (omega arith) (λ t. absurd (false≢true (sym other ∙ t)))) ∙ e₁ in
       walk-ends a d seen answer e₁ ∙ sym (walk-ends b d seen answer e₂)

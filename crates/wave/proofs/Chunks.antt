@@ -28,39 +28,13 @@ bits-small n h = by-test (eqb n 16) (λ t. omega (arith, eqb-true n 16 t)) (λ t
 
 -- ---- the right values
 
-module _ (tag channels rate byteRate block bits : ℕ) where
-  pub right-tag : (tag ≡ 1 → ⊥) → false ≡ right tag channels rate byteRate block bits
-  unfolding right
-  right-tag h = rw (ne-eqb tag 1 h)
-
-  pub right-channels : tag ≡ 1 → (channels ≡ 1 → ⊥) → false ≡ right tag channels rate byteRate block bits
-  unfolding right
-  right-channels t h = rw (eq-eqb tag 1 t, ne-eqb channels 1 h)
-
-  pub right-rate : tag ≡ 1 → channels ≡ 1 → knownRate rate ≡ false → false ≡ right tag channels rate byteRate block bits
-  unfolding right
-  right-rate t h k = rw (eq-eqb tag 1 t, eq-eqb channels 1 h, k)
-
-  pub right-bits : tag ≡ 1 → channels ≡ 1 → knownRate rate ≡ true → knownBits bits ≡ false → false ≡ right tag channels rate byteRate block bits
-  unfolding right
-  right-bits t h k b = rw (eq-eqb tag 1 t, eq-eqb channels 1 h, k, b)
-
-  module _ (t : tag ≡ 1) (h : channels ≡ 1) (k : knownRate rate ≡ true) (b : knownBits bits ≡ true) where
-    pub right-block : (block ≡ bits / 8 → ⊥) → false ≡ right tag channels rate byteRate block bits
-    unfolding right
-    right-block n = rw (eq-eqb tag 1 t, eq-eqb channels 1 h, k, b, ne-eqb block (bits / 8) n)
-
-    pub right-last : block ≡ bits / 8 → eqb byteRate (rate * block) ≡ right tag channels rate byteRate block bits
-    unfolding right
-    right-last e = rw (eq-eqb tag 1 t, eq-eqb channels 1 h, k, b, eq-eqb block (bits / 8) e)
-
-    -- the product of a known rate and a block size is small
-    pub product-fits : block ≡ bits / 8 → rate * block < 4294967296
-    product-fits e =
-        let small : bits ≤ 24 = bits-small bits b in
-        let three : block ≤ 3 = omega arith in
-        let l : rate * block ≤ 48000 * 3 = mul-le-mul (rate-small rate k) three in
-        omega arith
+-- the product of a known rate and a block size is small
+pub product-fits : (rate block bits : ℕ) → knownRate rate ≡ true → knownBits bits ≡ true → block ≡ bits / 8 → rate * block < 4294967296
+product-fits rate block bits k b e =
+    let small : bits ≤ 24 = bits-small bits b in
+    let three : block ≤ 3 = omega arith in
+    let l : rate * block ≤ 48000 * 3 = mul-le-mul (rate-small rate k) three in
+    omega arith
 
 -- right values that are not of 16 bits are of 24
 pub right-means-24 : (tag channels rate byteRate block bits : ℕ) (judged : Bool) → judged ≡ right tag channels rate byteRate block bits →
@@ -74,22 +48,9 @@ right-means-24 tag channels rate byteRate block bits judged is held other =
 
 -- ---- `fmt `
 
-module _ (rest : List ℕ) (at : ℕ) where
-  pub fmt-length : (seen : Seen) → (field rest 4 4 ≡ 16 → ⊥) → ends (refused 23 0) ≡ fmtChunk rest at seen
-  unfolding fmtChunk
-  fmt-length seen h = rw (ne-eqb (field rest 4 4) 16 h)
-
-  pub fmt-cut : (seen : Seen) → field rest 4 4 ≡ 16 → length rest < 24 → ends (refused 24 0) ≡ fmtChunk rest at seen
-  unfolding fmtChunk
-  fmt-cut seen e l = rw (eq-eqb (field rest 4 4) 16 e, lt-leb 24 (length rest) l)
-
-  pub fmt-second : (rate bits : ℕ) → field rest 4 4 ≡ 16 → 24 ≤ length rest → ends (refused 23 0) ≡ fmtChunk rest at (sound rate bits)
-  unfolding fmtChunk first
-  fmt-second rate bits e l = rw (eq-eqb (field rest 4 4) 16 e, le-leb 24 (length rest) l)
-
-  pub fmt-first : (step : Step) → field rest 4 4 ≡ 16 → 24 ≤ length rest → step ≡ values rest at → step ≡ fmtChunk rest at nothing
-  unfolding fmtChunk first
-  fmt-first step e l v = rw (eq-eqb (field rest 4 4) 16 e, le-leb 24 (length rest) l) v
+pub fmt-first : (rest : List ℕ) (at : ℕ) (step : Step) → field rest 4 4 ≡ 16 → 24 ≤ length rest → step ≡ values rest at → step ≡ fmtChunk rest at nothing
+unfolding fmtChunk first
+fmt-first rest at step e l v = rw (eq-eqb (field rest 4 4) 16 e, le-leb 24 (length rest) l) v
 
 -- the six values as they stand in the chunk
 pub record Fields (rest : List ℕ) (tag channels rate byteRate block bits : ℕ) : Type 0 where
@@ -119,18 +80,10 @@ module _
 
 -- ---- `data`
 
-pub data-none : (size at : ℕ) → refused 22 0 ≡ dataChunk size at nothing
+pub data-whole : (size at rate bits : ℕ) → size % blockSize bits ≡ 0 →
+    accepted (record { rate = rate; bits = bits; size = size; start = at + 8 }) ≡ dataChunk size at (sound rate bits)
 unfolding dataChunk
-data-none size at = refl
-
-module _ (size at rate bits block : ℕ) (e : block ≡ blockSize bits) where
-  pub data-part : (size % block ≡ 0 → ⊥) → refused 25 0 ≡ dataChunk size at (sound rate bits)
-  unfolding dataChunk
-  data-part h = rw (ne-eqb (size % (bits / 8)) 0 (subst (λ (b : ℕ). size % b ≡ 0 → ⊥) e h))
-
-  pub data-whole : size % block ≡ 0 → accepted (record { rate = rate; bits = bits; size = size; start = at + 8 }) ≡ dataChunk size at (sound rate bits)
-  unfolding dataChunk
-  data-whole h = rw (eq-eqb (size % (bits / 8)) 0 (subst (λ (b : ℕ). size % b ≡ 0) e h))
+data-whole size at rate bits h = rw (eq-eqb (size % blockSize bits) 0 h)
 
 -- ---- any chunk
 
@@ -143,12 +96,7 @@ module _ (rest : List ℕ) (at : ℕ) (seen : Seen) where
   unfolding chunk
   chunk-fmt step l f e = rw (le-leb 8 (length rest) l, f) e
 
-  module _ (l : 8 ≤ length rest) (f : same (take 4 rest) fmt ≡ false) where
-    pub chunk-data : (answer : Answer Found) (size : ℕ) → same (take 4 rest) data′ ≡ true → size ≡ field rest 4 4 → answer ≡ dataChunk size at seen →
-        ends answer ≡ chunk rest at seen
-    unfolding chunk
-    chunk-data answer size d s e = rw (le-leb 8 (length rest) l, f, d) (ap ends (e ∙ ap (λ (n : ℕ). dataChunk n at seen) s))
-
-    pub chunk-other : (place size : ℕ) → same (take 4 rest) data′ ≡ false → size ≡ field rest 4 4 → place ≡ next at size → on place seen ≡ chunk rest at seen
-    unfolding chunk
-    chunk-other place size d s e = rw (le-leb 8 (length rest) l, f, d) (ap (λ (p : ℕ). on p seen) (e ∙ ap (next at) s))
+  pub chunk-data : (answer : Answer Found) (size : ℕ) → 8 ≤ length rest → same (take 4 rest) fmt ≡ false → same (take 4 rest) data′ ≡ true →
+      size ≡ field rest 4 4 → answer ≡ dataChunk size at seen → ends answer ≡ chunk rest at seen
+  unfolding chunk
+  chunk-data answer size l f d s e = rw (le-leb 8 (length rest) l, f, d) (ap ends (e ∙ ap (λ (n : ℕ). dataChunk n at seen) s))

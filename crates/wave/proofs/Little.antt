@@ -13,21 +13,6 @@ use Rattle.wave.specs.Bytes.{number, little, field, same}
 
 -- ---- bytes to a number
 
-pub number-2 : (s : List ℕ) → length s ≡ 2 → number s ≡ getD s 0 0 + 256 * getD s 1 0
-unfolding number
-number-2 [] h = omega arith
-number-2 (a ∷ []) h = omega arith
-number-2 (a ∷ b ∷ []) h = omega arith
-number-2 (a ∷ b ∷ x ∷ s) h = absurd (omega arith)
-
-pub number-3 : (s : List ℕ) → length s ≡ 3 → number s ≡ getD s 0 0 + 256 * getD s 1 0 + 65536 * getD s 2 0
-unfolding number
-number-3 [] h = omega arith
-number-3 (a ∷ []) h = omega arith
-number-3 (a ∷ b ∷ []) h = omega arith
-number-3 (a ∷ b ∷ x ∷ []) h = omega arith
-number-3 (a ∷ b ∷ x ∷ y ∷ s) h = absurd (omega arith)
-
 number-take-2 : (t : List ℕ) → number (take 2 t) ≡ getD t 0 0 + 256 * getD t 1 0
 unfolding number
 number-take-2 [] = refl
@@ -68,6 +53,12 @@ field-4 s place =
     number-take-4 (drop place s)
     ∙ omega (arith, first-of-drop s place, getD-drop place s 1 0, getD-drop place s 2 0, getD-drop place s 3 0)
 
+-- four bytes are two and two
+pub field-halves : (s : List ℕ) (place : ℕ) → field s place 4 ≡ field s place 2 + 65536 * field s (place + 2) 2
+field-halves s place =
+    let last : getD s (place + 2 + 1) 0 ≡ getD s (place + 3) 0 = ap (λ (k : ℕ). getD s k 0) (omega arith) in
+    omega (arith, field-4 s place, field-2 s place, field-2 s (place + 2))
+
 -- ---- names
 
 pub same-4 : (t name : List ℕ) → 4 ≤ length t → length name ≡ 4 →
@@ -92,6 +83,12 @@ same-at s name place h e =
     same-4 (drop place s) name (simp length-drop (omega arith)) e
     ∙ rw (first-of-drop s place, getD-drop place s 1 0, getD-drop place s 2 0, getD-drop place s 3 0)
 
+-- .. as a rule for search
+pub named-by : (s name : List ℕ) (place : ℕ) (r : Bool) → place + 4 ≤ length s → length name ≡ 4 →
+    r ≡ (eqb (getD s place 0) (getD name 0 0) && (eqb (getD s (place + 1) 0) (getD name 1 0) && (eqb (getD s (place + 2) 0) (getD name 2 0) && eqb (getD s (place + 3) 0) (getD name 3 0)))) →
+    r ≡ same (take 4 (drop place s)) name
+named-by s name place r h e d = d ∙ sym (same-at s name place h e)
+
 -- ---- a number to bytes
 
 pub length-little : (k n : ℕ) → length (little k n) ≡ k
@@ -99,29 +96,28 @@ unfolding little
 length-little zero n = refl
 length-little (suc k) n = ap suc (length-little k (n / 256))
 
-third-byte : (n : ℕ) → n < 16777216 → n / 256 / 256 % 256 ≡ n / 65536
-third-byte n h = omega arith
-
 pub little-2 : (n : ℕ) → n < 65536 → little 2 n ≡ n % 256 ∷ n / 256 ∷ []
 unfolding little
 little-2 n h = ap (λ (b : ℕ). n % 256 ∷ b ∷ []) (omega arith)
 
-pub little-4 : (n : ℕ) → n < 4294967296 → little 4 n ≡ n % 256 ∷ n / 256 % 256 ∷ n / 65536 % 256 ∷ n / 16777216 ∷ []
+-- four bytes are two and two
+pub little-4 : (n : ℕ) → little 4 n ≡ little 2 (n % 65536) ++ little 2 (n / 65536)
 unfolding little
-little-4 n h =
-    let third : n / 256 / 256 % 256 ≡ n / 65536 % 256 = omega arith in
-    let fourth : n / 256 / 256 / 256 % 256 ≡ n / 16777216 = omega arith in
-    ap (λ (b : ℕ). n % 256 ∷ n / 256 % 256 ∷ b ∷ n / 256 / 256 / 256 % 256 ∷ []) third
-    ∙ ap (λ (b : ℕ). n % 256 ∷ n / 256 % 256 ∷ n / 65536 % 256 ∷ b ∷ []) fourth
+little-4 n = rw (high n, low n, middle (n / 65536) (n % 65536 / 256) (n / 256) (over n))
+  where
+    high : (k : ℕ) → k / 256 / 256 ≡ k / 65536
+    high k = omega arith
 
-pub little-3 : (n : ℕ) → n < 2 ^ 24 → little 3 n ≡ n % 256 ∷ n / 256 % 256 ∷ n / 65536 ∷ []
-unfolding little
-little-3 n h = ap (λ (b : ℕ). n % 256 ∷ n / 256 % 256 ∷ b ∷ []) (third-byte n h)
+    low : (k : ℕ) → k % 65536 % 256 ≡ k % 256
+    low k = omega arith
+
+    over : (k : ℕ) → k / 256 ≡ 256 * (k / 65536) + k % 65536 / 256
+    over k = omega arith
+
+    middle : (q r k : ℕ) → k ≡ 256 * q + r → r % 256 ≡ k % 256
+    middle q r k e = omega arith
 
 -- ---- stores in a row
-
-pub stores-3 : (l : List ℕ) (at x y z : ℕ) → set (set (set l at x) (at + 1) y) (at + 2) z ≡ sets l at (x ∷ y ∷ z ∷ [])
-stores-3 l at x y z = rw (add-one, add-two)
 
 pub stores-2 : (l : List ℕ) (at x y : ℕ) → set (set l at x) (at + 1) y ≡ sets l at (x ∷ y ∷ [])
 stores-2 l at x y = rw add-one
@@ -150,6 +146,16 @@ pub behind : (l m n xs ys : List ℕ) (at k : ℕ) → length xs ≡ k →
 behind l m n xs ys at k long first second =
     second ∙ ap (λ (r : List ℕ). sets r (at + k) ys) first
     ∙ ap (λ (j : ℕ). sets (sets l at xs) (at + j) ys) (sym long) ∙ sets-append l xs ys at
+
+-- a number stored byte by byte, or in two halves
+module _ (l m : List ℕ) (at n : ℕ) where
+  pub one-more : m ≡ sets (set l at (n % 256)) (at + 1) (little 2 (n / 256)) → m ≡ sets l at (little 3 n)
+  unfolding little
+  one-more e = e ∙ ap (λ (k : ℕ). sets (set l at (n % 256)) k (little 2 (n / 256))) (add-one at)
+
+  pub two-and-two : (k : List ℕ) → k ≡ sets l at (little 2 (n % 65536)) → m ≡ sets k (at + 2) (little 2 (n / 65536)) → m ≡ sets l at (little 4 n)
+  two-and-two k d e =
+      behind l k m (little 2 (n % 65536)) (little 2 (n / 65536)) at 2 (length-little 2 (n % 65536)) d e ∙ ap (sets l at) (sym (little-4 n))
 
 -- a row as long as the buffer takes its place
 pub sets-whole : (l vs : List ℕ) → length vs ≡ length l → sets l 0 vs ≡ vs

@@ -150,15 +150,15 @@ module _ (rate size : ℕ) (t : List ℕ) where
   data-is : size % 3 ≡ 0 → size < 4294967296 → chunk (drop 36 (header rate size ++ t)) 36 (sound rate 24) ≡ ends (accepted (foundIn rate size))
   unfolding header chunkHeader fmtContents little field number same
   data-is whole small =
-      sym (chunk-data (drop 36 (header rate size ++ t)) 36 (sound rate 24) long-36 refl (accepted (foundIn rate size)) size refl
-      (sym (number-little-4 size small)) (data-whole size 36 rate 24 3 refl whole))
+      sym (chunk-data (drop 36 (header rate size ++ t)) 36 (sound rate 24) (accepted (foundIn rate size)) size long-36 refl refl
+      (sym (number-little-4 size small)) (data-whole size 36 rate 24 whole))
 
   front-is : knownRate rate ≡ true → size % 3 ≡ 0 → size < 4294967296 → judge (header rate size ++ t) ≡ accepted (foundIn rate size)
   unfolding header chunkHeader fmtContents little same
   front-is known whole small =
       let front = header rate size ++ t in
       let l = length-front in
-      sym (judge-walk front (omega arith) refl (accepted (foundIn rate size)) refl
+      sym (judge-walk front (accepted (foundIn rate size)) (omega arith) refl refl
       (sym (walk-on front 12 nothing 36 (sound rate 24) (fmt-is known)
       ∙ walk-ends front 36 (sound rate 24) (accepted (foundIn rate size)) (data-is whole small))))
 

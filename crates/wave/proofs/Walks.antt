@@ -115,31 +115,9 @@ module _ (front : List ℕ) (at : ℕ) (seen : Seen) where
   pub walk-on : (place : ℕ) (met : Seen) → chunk (drop at front) at seen ≡ on place met → walk (length front) front at seen ≡ walk (length front) front place met
   walk-on place met e = let far = went-on place met e in on-with (length front) place met refl (far .0) (far .1) e
 
--- ---- the cases of `judge` and `readOf`
+-- ---- a front with the names
 
-module _ (front : List ℕ) where
-  pub judge-short : length front < 12 → refused 21 0 ≡ judge front
-  unfolding judge
-  judge-short l = rw (lt-leb 12 (length front) l)
-
-  module _ (l : 12 ≤ length front) where
-    pub judge-riff : same (take 4 front) riff ≡ false → refused 21 0 ≡ judge front
-    unfolding judge
-    judge-riff r = rw (le-leb 12 (length front) l, r)
-
-    module _ (r : same (take 4 front) riff ≡ true) where
-      pub judge-wave : same (take 4 (drop 8 front)) wave ≡ false → refused 21 0 ≡ judge front
-      unfolding judge
-      judge-wave w = rw (le-leb 12 (length front) l, r, w)
-
-      pub judge-walk : (answer : Answer Found) → same (take 4 (drop 8 front)) wave ≡ true → answer ≡ walk (length front) front 12 nothing → answer ≡ judge front
-      unfolding judge
-      judge-walk answer w e = rw (le-leb 12 (length front) l, r, w) e
-
-pub read-whole : (lent : List ℕ) → length lent ≤ frontLength → judge lent ≡ readOf lent
-unfolding readOf
-read-whole lent l = ap judge (sym (take-all frontLength lent l))
-
-pub read-front : (lent : List ℕ) → judge (take frontLength lent) ≡ readOf lent
-unfolding readOf
-read-front lent = refl
+pub judge-walk : (front : List ℕ) (answer : Answer Found) → 12 ≤ length front → same (take 4 front) riff ≡ true → same (take 4 (drop 8 front)) wave ≡ true →
+    answer ≡ walk (length front) front 12 nothing → answer ≡ judge front
+unfolding judge
+judge-walk front answer l r w e = rw (le-leb 12 (length front) l, r, w) e

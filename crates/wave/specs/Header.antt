@@ -1,4 +1,4 @@
--- The header writer, from the page's section WAVE and its row "writer".
+-- The header writer.
 use Prim.Native.Nat.{ℕ, _+_, _*_, _%_}
 use mathlib.Core.List.{List, [], _∷_, _++_}
 use lib.ListN.{length}
@@ -11,20 +11,20 @@ use Rattle.wave.specs.Values.{knownRate}
 use Rattle.wave.specs.declared.writer.Written.{Written}
 use Rattle.wave.specs.declared.writer.Written.the-variants.{Header, WrongBuffer, WrongRate, WrongLength}
 
--- "four bytes of name, four of length"
+-- rule 8.4: four bytes of name, four of length
 unfoldable pub chunkHeader : List ℕ → ℕ → List ℕ
 chunkHeader name size = name ++ little 4 size
 
--- "`fmt ` for 24 bits": tag 1, one channel, rate, byte rate, block size 3, bits 24
+-- rule 8.13: `fmt ` for 24 bits: tag 1, one channel, rate, byte rate, block size 3, bits 24
 unfoldable pub fmtContents : ℕ → List ℕ
 fmtContents rate = little 2 1 ++ (little 2 1 ++ (little 4 rate ++ (little 4 (rate * 3) ++ (little 2 3 ++ little 2 24))))
 
--- "The writer makes 44 bytes: RIFF, length + 36, WAVE, `fmt ` for 24 bits, `data` header."
+-- rule 8.13: the 44 bytes, for a length of `size` bytes
 unfoldable pub header : ℕ → ℕ → List ℕ
 header rate size =
     chunkHeader riff (size + 36) ++ (wave ++ (chunkHeader fmt 16 ++ (fmtContents rate ++ chunkHeader data′ size)))
 
--- the checks of `write`: a buffer of 44 bytes, one of the two rates, a length of whole samples that the RIFF size can hold
+-- rule 6.8: the checks of `write`: a buffer of 44 bytes, one of the two rates, a length of whole samples that the RIFF size can hold
 abbrev pub writeChecks : List ℕ → ℕ → ℕ → List (Check Written)
 writeChecks buffer rate size =
     check (eqb (length buffer) 44) WrongBuffer ∷
@@ -32,11 +32,11 @@ writeChecks buffer rate size =
     check (eqb (size % 3) 0) WrongLength ∷
     check (leb size 4294967259) WrongLength ∷ []
 
--- `write`, with the buffer afterwards
+-- rule 6.8, header writer: `write`, with the buffer afterwards
 unfoldable pub writeOf : List ℕ → ℕ → ℕ → Outcome Written (List ℕ)
 writeOf buffer rate size = decide (writeChecks buffer rate size) buffer (Header 44) (header rate size)
 
--- numbers and values for `Written`
+-- rule 6.8: numbers and values for `Written`
 abbrev pub writeAnswer : Written → Answer ℕ
 writeAnswer (Header n) = accepted n
 writeAnswer WrongBuffer = refused 27 0

@@ -17,43 +17,43 @@ use Rattle.wave.specs.declared.sample.Sample.the-variants as sample
 use Rattle.wave.specs.declared.sample.Put.{Put}
 use Rattle.wave.specs.declared.sample.Put.the-variants as put
 
--- two's complement: a code of `bits` bits from half of 2 ^ bits up stands for itself minus 2 ^ bits
+-- rule 9.1: a code of `bits` bits from half of 2 ^ bits up stands for itself minus 2 ^ bits
 unfoldable pub numberOf : ℕ → ℕ → ℤ
 numberOf bits code = cond (ltb code (2 ^ (bits - 1))) (pos code) (pos code -ℤ pos (2 ^ bits))
 
--- two's complement of 24 bits: -(n + 1) has the code 2 ^ 24 - (n + 1)
+-- rule 9.2: -(n + 1) has the code 2 ^ 24 - (n + 1)
 unfoldable pub codeOf : ℤ → ℕ
 codeOf (pos n) = n
 codeOf (negsuc n) = 2 ^ 24 - suc n
 
--- a 24-bit sample is the number in its three bytes; a 16-bit one is taken times 256
+-- rule 9.4: the sample in the bytes of a format
 unfoldable pub sampleIn : Format → List ℕ → ℤ
 sampleIn Bits16 s = numberOf 16 (number s) *ℤ pos 256
 sampleIn Bits24 s = numberOf 24 (number s)
 
--- `sample_from_bytes`: two bytes, three, or another number of them
+-- rule 9.4: `sample_from_bytes`: two bytes, three, or another number of them
 unfoldable pub fromBytes : List ℕ → Sample
 fromBytes s =
     cond (eqb (length s) 2) (sample.Is (sampleIn Bits16 s))
     (cond (eqb (length s) 3) (sample.Is (sampleIn Bits24 s))
     sample.WrongLength)
 
--- the checks of `sample_to_bytes`: three bytes, and a number in the range
+-- rule 6.8: the checks of `sample_to_bytes`: three bytes, and a number in the range
 abbrev pub putChecks : ℤ → List ℕ → List (Check Put)
 putChecks z buffer =
     check (eqb (length buffer) 3) put.WrongLength ∷
     check (within leastSample mostSample z) put.OutOfRange ∷ []
 
--- `sample_to_bytes`, with the buffer afterwards
+-- rule 9.3: `sample_to_bytes`, with the buffer afterwards
 unfoldable pub toBytes : ℤ → List ℕ → Outcome Put (List ℕ)
 toBytes z buffer = decide (putChecks z buffer) buffer (put.Done 3) (little 3 (codeOf z))
 
--- numbers and values for `Sample`
+-- rule 6.8: numbers and values for `Sample`
 abbrev pub sampleAnswer : Sample → Answer ℤ
 sampleAnswer (sample.Is z) = accepted z
 sampleAnswer sample.WrongLength = refused 18 0
 
--- numbers and values for `Put`
+-- rule 6.8: numbers and values for `Put`
 abbrev pub putAnswer : Put → Answer ℕ
 putAnswer (put.Done n) = accepted n
 putAnswer put.WrongLength = refused 18 0

@@ -17,44 +17,44 @@ use Rattle.wave.specs.declared.samples.Taken.the-variants as taken
 use Rattle.wave.specs.declared.samples.Stored.{Stored}
 use Rattle.wave.specs.declared.samples.Stored.the-variants as stored
 
--- n samples, one after the other
+-- rule 9.5: n samples, one after the other
 unfoldable pub samplesOf : ℕ → Format → List ℕ → List ℤ
 samplesOf zero format s = []
 samplesOf (suc n) format s = sampleIn format (take (sizeOf format) s) ∷ samplesOf n format (drop (sizeOf format) s)
 
--- the bytes of samples, three of each
+-- rule 9.6: the bytes of samples, three of each
 unfoldable pub bytesOf : List ℤ → List ℕ
 bytesOf [] = []
 bytesOf (z ∷ samples) = little 3 (codeOf z) ++ bytesOf samples
 
--- the checks of `bytes_to_samples`: whole samples, and an output as long as their number
+-- rule 6.8: the checks of `bytes_to_samples`: whole samples, and an output as long as their number
 abbrev pub takenChecks : List ℕ → Format → List ℤ → List (Check Taken)
 takenChecks s format samples =
     check (eqb (length s % sizeOf format) 0) taken.PartSample ∷
     check (eqb (length samples) (length s / sizeOf format)) taken.WrongLength ∷ []
 
--- `bytes_to_samples`, with the samples afterwards
+-- rule 9.5: `bytes_to_samples`, with the samples afterwards
 unfoldable pub blockFrom : List ℕ → Format → List ℤ → Outcome Taken (List ℤ)
 blockFrom s format samples =
     decide (takenChecks s format samples) samples (taken.Samples (length samples)) (samplesOf (length samples) format s)
 
--- the checks of `samples_to_bytes`: three bytes a sample, and every number in the range
+-- rule 6.8: the checks of `samples_to_bytes`: three bytes a sample, and every number in the range
 abbrev pub storedChecks : List ℤ → List ℕ → List (Check Stored)
 storedChecks samples buffer =
     check (eqb (length buffer) (3 * length samples)) stored.WrongLength ∷
     check (allWithin leastSample mostSample samples) stored.OutOfRange ∷ []
 
--- `samples_to_bytes`, with the buffer afterwards
+-- rule 9.6: `samples_to_bytes`, with the buffer afterwards
 unfoldable pub blockTo : List ℤ → List ℕ → Outcome Stored (List ℕ)
 blockTo samples buffer = decide (storedChecks samples buffer) buffer (stored.Bytes (length buffer)) (bytesOf samples)
 
--- numbers and values for `Taken`
+-- rule 6.8: numbers and values for `Taken`
 abbrev pub takenAnswer : Taken → Answer ℕ
 takenAnswer (taken.Samples n) = accepted n
 takenAnswer taken.PartSample = refused 18 0
 takenAnswer taken.WrongLength = refused 6 0
 
--- numbers and values for `Stored`
+-- rule 6.8: numbers and values for `Stored`
 abbrev pub storedAnswer : Stored → Answer ℕ
 storedAnswer (stored.Bytes n) = accepted n
 storedAnswer stored.WrongLength = refused 18 0

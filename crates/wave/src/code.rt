@@ -1,4 +1,5 @@
 // A sample's code: the 24 bits of its two's complement, as a number below 2 ^ 24.
+use crate::put::put_two;
 use whole::counts::wide;
 ghost use mathlib.Core.Path.{_≡_};
 ghost use Prim.Native.Nat.{_<_, _≤_, _+_, _*_, _^_};
@@ -44,6 +45,5 @@ pub(crate) fn put_code(buffer: &mut [u8], at: usize, code: u32)
     ensures { λ _. ⌜ now (buffer .exit) ≡ sets (now (buffer .entry)) at (little 3 code) ⌝ }
 {
     buffer[at] = (code % 256) as u8;
-    buffer[at + 1] = (code / 256 % 256) as u8;
-    buffer[at + 2] = (code / 65536) as u8;
+    put_two(buffer, at + 1, code / 256);
 }

@@ -1,13 +1,13 @@
 // Numbers and names read at a place, the lowest byte first.
 use whole::counts::wide;
 ghost use mathlib.Core.Path.{_≡_};
-ghost use Prim.Native.Nat.{_+_, _≤_};
+ghost use Prim.Native.Nat.{_+_, _≤_, _<_};
 ghost use lib.ListN.{length, take, drop};
 ghost use Rattle.wave.specs.Bytes.{field, same};
 
 pub(crate) fn two(s: &[u8], place: usize) -> u32
     requires { ⌜ place + 2 ≤ length (now s) ⌝ }
-    ensures { λ r. ⌜ r ≡ field (now (s .entry)) place 2 ⌝ }
+    ensures { λ r. ⌜ (r ≡ field (now (s .entry)) place 2) × (r < 65536) ⌝ }
 {
     wide(s[place]) + 256 * wide(s[place + 1])
 }
@@ -16,10 +16,7 @@ pub(crate) fn four(s: &[u8], place: usize) -> u32
     requires { ⌜ place + 4 ≤ length (now s) ⌝ }
     ensures { λ r. ⌜ r ≡ field (now (s .entry)) place 4 ⌝ }
 {
-    wide(s[place])
-        + 256 * wide(s[place + 1])
-        + 65536 * wide(s[place + 2])
-        + 16777216 * wide(s[place + 3])
+    two(s, place) + 65536 * two(s, place + 2)
 }
 
 // Whether the four bytes at a place read a name.

@@ -18,10 +18,8 @@ pub(crate) fn put_four(buffer: &mut [u8], at: usize, n: u32)
     requires { ⌜ at + 4 ≤ length (now buffer) ⌝ }
     ensures { λ _. ⌜ now (buffer .exit) ≡ sets (now (buffer .entry)) at (little 4 n) ⌝ }
 {
-    buffer[at] = (n % 256) as u8;
-    buffer[at + 1] = (n / 256 % 256) as u8;
-    buffer[at + 2] = (n / 65536 % 256) as u8;
-    buffer[at + 3] = (n / 16777216) as u8;
+    put_two(buffer, at, n % 65536);
+    put_two(buffer, at + 2, n / 65536);
 }
 
 pub(crate) fn put_name(buffer: &mut [u8], at: usize, name: &[u8; 4])

@@ -1,36 +1,26 @@
--- `equaliser::oeq_prepare` meets its contract: the library call's answer, encoded. Assumes nothing.
-use mathlib.Core.Path.{sym, ap, subst, _∙_}
-use Rattle.octave.specs.Answer.{Answer}
-use Rattle.capi.specs.Encode.{encode}
-use Rattle.capi.specs.Answers.{ofOctave, Counted}
-use Rattle.capi.proofs.Fine.{prepare-fine}
-use Rattle.capi.proofs.Codes.{returned}
-use mir.Facts.{toZ-ofZ}
-use mir.Syntax.{w32}
-use mir.Val.{toZ, ofZ}
-use lib.IntN.{ℤ}
-use denote.Ref.{now}
-use Rattle.octave.specs.Memory.{prepareOf}
+-- `equaliser::oeq_prepare` meets its contract: the library call's answer, encoded, and what it leaves. Assumes nothing.
+use native.Mathlib.Omega.{arith}
 use borrow.Author.Needs.{needs}
+use denote.Ref.{now}
+use mir.Facts.{toZ-ofZ}
+use Rattle.octave.specs.Answer.{preparedAnswer}
+use Rattle.capi.proofs.Encoding.{lent-fits, lent-returned}
+use Rattle.capi.proofs.Returnable.{prepare-counted}
 use Rattle.capi.proofs.equaliser.oeq_prepare.Statement.{statement}
 use Rattle.capi.proofs.equaliser.oeq_prepare.Tie as tie
 
-prepare-requires : tie.Need-prepare-requires
-prepare-requires c κs = search needs
-
-prepared-code-requires : tie.Need-prepared-code-requires
-prepared-code-requires c κs = subst Counted (sym (c .before .prepare .ensures .answer-is)) (prepare-fine (toZ w32 (ofZ w32 (c .before .before .before .args .bands))) (now (c .before .before .before .args .memory)) .counted)
-
-same-length : tie.Need-same-length
-same-length c = search needs
+counted-requires : tie.Need-counted-requires
+counted-requires c κs =
+    let call = c .before .before .before in
+    let s = call .before .before in
+    (omega arith, lent-fits preparedAnswer (rw (toZ-ofZ (s .fits .bands)) at (call .prepare .ensures)) (prepare-counted (s .args .bands) (now (s .args .memory))) (c .prepared-value .ensures))
 
 returns : tie.Need-returns
-returns c = (
-  returned (c .prepared-code .ensures ∙ ap (λ (a : Answer). encode (ofOctave a)) (c .before .before .prepare .ensures .answer-is)
-      ∙ ap (λ (z : ℤ). encode (ofOctave (prepareOf z (now (c .before .before .before .before .args .memory)) .answer))) (toZ-ofZ (c .before .before .before .before .fits .bands))) (c .prepared-code .ok),
-  c .before .before .prepare .ensures .memory-is
-      ∙ ap (λ (z : ℤ). prepareOf z (now (c .before .before .before .before .args .memory)) .memory) (toZ-ofZ (c .before .before .before .before .fits .bands)),
-)
+returns c =
+    let call = c .before .before .before .before in
+    let s = call .before .before in
+    lent-returned preparedAnswer (rw (toZ-ofZ (s .fits .bands)) at (call .prepare .ensures)) (prepare-counted (s .args .bands) (now (s .args .memory))) (c .before .prepared-value .ensures) (c .before .before .prepared-number .ensures) (c .counted .ensures) (c .counted .ok)
 
 pub oeq-prepare-spec : {M : Type 1} → statement M
-oeq-prepare-spec = tie.close (tie.spec prepare-requires prepared-code-requires same-length returns)
+oeq-prepare-spec =
+    tie.close (tie.spec (λ c κs. search needs) (λ c κs. search needs) (λ c κs. search needs) counted-requires (λ c. search needs) returns)

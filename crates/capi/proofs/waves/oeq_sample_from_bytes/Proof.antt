@@ -1,23 +1,18 @@
 -- `waves::oeq_sample_from_bytes` meets its contract: the library call's answer, encoded. Assumes nothing.
-use mathlib.Core.Path.{ap, _∙_}
-use lib.IntN.{ℤ}
-use Rattle.wave.specs.Answer.{Answer}
-use Rattle.capi.specs.Encode.{encode}
-use Rattle.capi.specs.Answers.{ofSample}
-use Rattle.capi.proofs.Codes.{returned}
+use mathlib.Core.Path.{ap}
 use borrow.Author.Needs.{needs}
+use denote.Ref.{now}
+use Rattle.wave.specs.Sample.{sampleAnswer}
+use Rattle.capi.proofs.Encoding.{signed-is}
+use Rattle.capi.proofs.Returnable.{sample-returnable}
 use Rattle.capi.proofs.waves.oeq_sample_from_bytes.Statement.{statement}
 use Rattle.capi.proofs.waves.oeq_sample_from_bytes.Tie as tie
 
-sample-from-bytes-requires : tie.Need-sample-from-bytes-requires
-sample-from-bytes-requires c κs = search needs
-
-sample-code-requires : tie.Need-sample-code-requires
-sample-code-requires c κs = search needs
-
 returns : tie.Need-returns
-returns c = returned (c .sample-code .ensures ∙ ap (λ (a : Answer ℤ). encode (ofSample a)) (c .before .sample-from-bytes .ensures)) (c .sample-code .ok)
+returns c =
+    let call = c .before .before .before in
+    signed-is (ap sampleAnswer (call .sample-from-bytes .ensures)) (sample-returnable (now (call .before .before .args .bytes))) (c .before .sample-value .ensures)
+    (c .before .sample-value .ok) (c .before .before .sample-number .ensures) (c .signed .ensures) (c .signed .ok)
 
 pub oeq-sample-from-bytes-spec : {M : Type 1} → statement M
-oeq-sample-from-bytes-spec =
-    tie.close (tie.spec sample-from-bytes-requires sample-code-requires returns)
+oeq-sample-from-bytes-spec = tie.close (tie.spec (λ c κs. search needs) (λ c κs. search needs) (λ c κs. search needs) (λ c κs. search needs) returns)

@@ -7,22 +7,16 @@ use Rattle.readings.proofs.course.turns.Statement.{statement}
 use Rattle.readings.proofs.course.turns.Tie as tie
 
 abbrev Inv-loop : tie.InvT-loop
-Inv-loop memory₀ bands signal from₀ i₀ memory from i = (length memory ≡ length memory₀) × (i ≤ 9)
+Inv-loop memory₀ bands signal state₀ i₀ memory state i = (length memory ≡ length memory₀) × (i ≤ 9)
 
 abbrev μ-loop : tie.MeasureT-loop
-μ-loop memory₀ bands signal from₀ i₀ memory from i = 9 - i
+μ-loop memory₀ bands signal state₀ i₀ memory state i = 9 - i
 
 loop-holds : tie.Need-loop-holds Inv-loop μ-loop
 loop-holds c = (refl, omega arith)
 
-mul-turn : tie.Need-mul-turn Inv-loop μ-loop
-mul-turn c = omega arith
-
-array-read-turn : tie.Need-array-read-turn Inv-loop μ-loop
-array-read-turn c = omega arith
-
 turn-requires : tie.Need-turn-requires Inv-loop μ-loop
-turn-requires c κs = tt
+turn-requires c κs = omega arith
 
 add-i : tie.Need-add-i Inv-loop μ-loop
 add-i c = omega arith
@@ -40,17 +34,4 @@ returns : tie.Need-returns Inv-loop μ-loop
 returns c = tt
 
 pub turns-spec : {M : Type 1} → statement M
-turns-spec =
-    tie.close
-    (tie.spec
-    Inv-loop
-    μ-loop
-    loop-holds
-    mul-turn
-    array-read-turn
-    turn-requires
-    add-i
-    loop-less
-    loop-again
-    same-length
-    returns)
+turns-spec = tie.close (tie.spec Inv-loop μ-loop loop-holds turn-requires add-i loop-less loop-again same-length returns)

@@ -11,37 +11,13 @@ fields : (c : tie.After-two4) → Fields (c .before .before .before .before .bef
     (c .before .before .before .two2 .result) (c .before .before .two3 .result) (c .before .before .before .before .before .four .result)
     (c .before .four2 .result) (c .two4 .result) (c .before .before .before .before .two .result)
 fields c = record {
-  tag-is = c .before .before .before .two2 .ensures;
-  channels-is = c .before .before .two3 .ensures;
+  tag-is = c .before .before .before .two2 .ensures .0;
+  channels-is = c .before .before .two3 .ensures .0;
   rate-is = c .before .before .before .before .before .four .ensures;
   byteRate-is = c .before .four2 .ensures;
-  block-is = c .two4 .ensures;
-  bits-is = c .before .before .before .before .two .ensures;
+  block-is = c .two4 .ensures .0;
+  bits-is = c .before .before .before .before .two .ensures .0;
 }
-
-four-requires : tie.Need-four-requires
-four-requires c κs = search needs
-
-two-requires : tie.Need-two-requires
-two-requires c κs = search needs
-
-two-requires-2 : tie.Need-two-requires-2
-two-requires-2 c κs = search needs
-
-two-requires-3 : tie.Need-two-requires-3
-two-requires-3 c κs = search needs
-
-four-requires-2 : tie.Need-four-requires-2
-four-requires-2 c κs = search needs
-
-two-requires-4 : tie.Need-two-requires-4
-two-requires-4 c κs = search needs
-
-right-requires : tie.Need-right-requires
-right-requires c κs = search needs
-
-next-chunk-requires : tie.Need-next-chunk-requires
-next-chunk-requires c κs = search needs
 
 returns : tie.Need-returns
 returns c =
@@ -51,9 +27,6 @@ returns c =
     let a = p .before .before .before .before .before .before .before .args in
     values-right (a .rest .now) (a .at) _ _ _ _ _ _ (fields p) (r .right .result) (r .right .ensures) (c .next-chunk .result) 16
     (then1 .if1 .taken) (c .next-chunk .ensures) (sym (c .before .if2 .taken))
-
-next-chunk-requires-2 : tie.Need-next-chunk-requires-2
-next-chunk-requires-2 c κs = search needs
 
 returns-2 : tie.Need-returns-2
 returns-2 c =
@@ -75,15 +48,15 @@ pub format-values-spec : {M : Type 1} → statement M
 format-values-spec =
     tie.close
     (tie.spec
-    four-requires
-    two-requires
-    two-requires-2
-    two-requires-3
-    four-requires-2
-    two-requires-4
-    right-requires
-    next-chunk-requires
+    (λ c κs. search needs)
+    (λ c κs. search needs)
+    (λ c κs. search needs)
+    (λ c κs. search needs)
+    (λ c κs. search needs)
+    (λ c κs. search needs)
+    (λ c κs. search needs)
+    (λ c κs. search needs)
     returns
-    next-chunk-requires-2
+    (λ c κs. search needs)
     returns-2
     returns-3)

@@ -5,9 +5,6 @@ use Rattle.wave.proofs.Complement.{low-is, high-fits, high-is}
 use Rattle.wave.proofs.code.number.Statement.{statement}
 use Rattle.wave.proofs.code.number.Tie as tie
 
-cast-n : tie.Need-cast-n
-cast-n c = omega arith
-
 sub-result : tie.Need-sub-result
 sub-result c = high-fits (c .before .args .code) (c .before .pre) (c .if1 .left)
 
@@ -18,4 +15,10 @@ returns-2 : tie.Need-returns-2
 returns-2 c = high-is (c .before .args .code) (c .before .pre) (c .if1 .left)
 
 pub number-spec : {M : Type 1} → statement M
-number-spec = tie.close (tie.spec cast-n sub-result returns returns-2)
+number-spec =
+    tie.close
+    (tie.spec
+    (λ c. omega arith)
+    sub-result
+    returns
+    returns-2)

@@ -4,12 +4,6 @@ use borrow.Author.Needs.{needs}
 use Rattle.wave.proofs.format.bytes_each.Statement.{statement}
 use Rattle.wave.proofs.format.bytes_each.Tie as tie
 
-enum-told : tie.Need-enum-told
-enum-told c = search needs
-
-enum-told-2 : tie.Need-enum-told-2
-enum-told-2 c = search needs
-
 returns : tie.Need-returns
 returns c = rw (c .enum-told .given .1) (refl, search needs, search needs)
 
@@ -17,4 +11,10 @@ returns-2 : tie.Need-returns-2
 returns-2 c = rw (c .enum-told2 .given .1) (refl, search needs, search needs)
 
 pub bytes-each-spec : {M : Type 1} → statement M
-bytes-each-spec = tie.close (tie.spec enum-told enum-told-2 returns returns-2)
+bytes-each-spec =
+    tie.close
+    (tie.spec
+    (λ c. search needs)
+    (λ c. search needs)
+    returns
+    returns-2)

@@ -1,100 +1,26 @@
--- `get::named` meets its contract: the four tests of a name, in turn.
--- Assumes nothing.
-use borrow.Author.Tests.{eq-eqb, ne-eqb}
-use Rattle.wave.proofs.Little.{same-at}
+-- `get::named` meets its contract: the four tests of a name, in turn. Assumes nothing.
 use borrow.Author.Needs.{needs}
+use Rattle.wave.proofs.ByTest.{anding}
+use Rattle.wave.proofs.Little.{named-by}
 use Rattle.wave.proofs.get.named.Statement.{statement}
 use Rattle.wave.proofs.get.named.Tie as tie
-
-shared-slice-read-if1 : tie.Need-shared-slice-read-if1
-shared-slice-read-if1 c = search needs
-
-element-copy-out-if1 : tie.Need-element-copy-out-if1
-element-copy-out-if1 c = search needs
-
-returns : tie.Need-returns
-returns c =
-    let e = c .before .before .before in
-    rw (same-at (e .args .s .now) (e .args .name .now) (e .args .place) (e .pre .0) (e .pre .1), ne-eqb _ _ (c .if1 .taken))
-
-add-if2 : tie.Need-add-if2
-add-if2 c = search needs
-
-shared-slice-read-if2 : tie.Need-shared-slice-read-if2
-shared-slice-read-if2 c = search needs
-
-element-copy-out-if2 : tie.Need-element-copy-out-if2
-element-copy-out-if2 c = search needs
-
-returns-2 : tie.Need-returns-2
-returns-2 c =
-    let else1 = c .before .before .before in
-    let e = else1 .before .before .before in
-    rw (
-      same-at (e .args .s .now) (e .args .name .now) (e .args .place) (e .pre .0) (e .pre .1),
-      eq-eqb _ _ (else1 .if1 .left),
-      ne-eqb _ _ (c .if2 .taken),
-    )
-
-add-if3 : tie.Need-add-if3
-add-if3 c = search needs
-
-shared-slice-read-if3 : tie.Need-shared-slice-read-if3
-shared-slice-read-if3 c = search needs
-
-element-copy-out-if3 : tie.Need-element-copy-out-if3
-element-copy-out-if3 c = search needs
-
-returns-3 : tie.Need-returns-3
-returns-3 c =
-    let else2 = c .before .before .before in
-    let else1 = else2 .before .before .before in
-    let e = else1 .before .before .before in
-    rw (
-      same-at (e .args .s .now) (e .args .name .now) (e .args .place) (e .pre .0) (e .pre .1),
-      eq-eqb _ _ (else1 .if1 .left),
-      eq-eqb _ _ (else2 .if2 .left),
-      ne-eqb _ _ (c .if3 .taken),
-    )
-
-add-result : tie.Need-add-result
-add-result c = search needs
-
-shared-slice-read-result : tie.Need-shared-slice-read-result
-shared-slice-read-result c = search needs
-
-element-copy-out-result : tie.Need-element-copy-out-result
-element-copy-out-result c = search needs
-
-returns-4 : tie.Need-returns-4
-returns-4 c =
-    let else3 = c .before .before in
-    let else2 = else3 .before .before .before in
-    let else1 = else2 .before .before .before in
-    let e = else1 .before .before .before in
-    rw (
-      same-at (e .args .s .now) (e .args .name .now) (e .args .place) (e .pre .0) (e .pre .1),
-      eq-eqb _ _ (else1 .if1 .left),
-      eq-eqb _ _ (else2 .if2 .left),
-      eq-eqb _ _ (else3 .if3 .left),
-    )
 
 pub named-spec : {M : Type 1} → statement M
 named-spec =
     tie.close
     (tie.spec
-    shared-slice-read-if1
-    element-copy-out-if1
-    returns
-    add-if2
-    shared-slice-read-if2
-    element-copy-out-if2
-    returns-2
-    add-if3
-    shared-slice-read-if3
-    element-copy-out-if3
-    returns-3
-    add-result
-    shared-slice-read-result
-    element-copy-out-result
-    returns-4)
+    (λ c. search needs)
+    (λ c. search needs)
+    (λ c. search (named-by, anding) depth 12)
+    (λ c. search needs)
+    (λ c. search needs)
+    (λ c. search needs)
+    (λ c. search (named-by, anding) depth 12)
+    (λ c. search needs)
+    (λ c. search needs)
+    (λ c. search needs)
+    (λ c. search (named-by, anding) depth 12)
+    (λ c. search needs)
+    (λ c. search needs)
+    (λ c. search needs)
+    (λ c. search (named-by, anding) depth 12))

@@ -5,18 +5,6 @@ use borrow.Author.Needs.{needs}
 use Rattle.wave.proofs.put.put_chunk.Statement.{statement}
 use Rattle.wave.proofs.put.put_chunk.Tie as tie
 
-put-name-requires : tie.Need-put-name-requires
-put-name-requires c κs = search needs
-
-add-put-four : tie.Need-add-put-four
-add-put-four c = search needs
-
-put-four-requires : tie.Need-put-four-requires
-put-four-requires c κs = search needs
-
-same-length : tie.Need-same-length
-same-length c = search needs
-
 returns : tie.Need-returns
 returns c =
     let four = c .before .before in
@@ -28,4 +16,10 @@ returns c =
 
 pub put-chunk-spec : {M : Type 1} → statement M
 put-chunk-spec =
-    tie.close (tie.spec put-name-requires add-put-four put-four-requires same-length returns)
+    tie.close
+    (tie.spec
+    (λ c κs. search needs)
+    (λ c. search needs)
+    (λ c κs. search needs)
+    (λ c. search needs)
+    returns)

@@ -29,24 +29,6 @@ stepped c =
     of-part (at-loop .before .before .args .front .now) (at-loop .loop .at) (seenOf (at-loop .loop .seen))
     (on (told .0 .0) (seenOf (told .0 .1 .0))) (sym (ap stepOf (told .1)) ∙ called .chunk .ensures)
 
-loop-holds : tie.Need-loop-holds Inv-loop μ-loop
-loop-holds c = refl
-
-sub-chunk : tie.Need-sub-chunk Inv-loop μ-loop
-sub-chunk c = search needs
-
-part-chunk-start : tie.Need-part-chunk-start Inv-loop μ-loop
-part-chunk-start c = search needs
-
-part-chunk-end : tie.Need-part-chunk-end Inv-loop μ-loop
-part-chunk-end c = search needs
-
-chunk-requires : tie.Need-chunk-requires Inv-loop μ-loop
-chunk-requires c κs = search needs
-
-enum-known-reading : tie.Need-enum-known-reading Inv-loop μ-loop
-enum-known-reading c = search needs
-
 returns : tie.Need-returns Inv-loop μ-loop
 returns c =
     let told = c .before .reading .given in
@@ -58,9 +40,6 @@ returns c =
     sym (walk-ends front at seen (readAnswer (told .0 .0))
     (of-part front at seen (ends (readAnswer (told .0 .0))) (sym (ap stepOf (told .1)) ∙ called .chunk .ensures)))
     ∙ at-loop .loop .inv
-
-enum-known-next : tie.Need-enum-known-next Inv-loop μ-loop
-enum-known-next c = search needs
 
 loop-less : tie.Need-loop-less Inv-loop μ-loop
 loop-less c =
@@ -92,14 +71,14 @@ walk-spec =
     (tie.spec
     Inv-loop
     μ-loop
-    loop-holds
-    sub-chunk
-    part-chunk-start
-    part-chunk-end
-    chunk-requires
-    enum-known-reading
+    (λ c. refl)
+    (λ c. search needs)
+    (λ c. search needs)
+    (λ c. search needs)
+    (λ c κs. search needs)
+    (λ c. search needs)
     returns
-    enum-known-next
+    (λ c. search needs)
     loop-less
     loop-again
     returns-2)

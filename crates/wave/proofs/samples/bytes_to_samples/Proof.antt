@@ -1,33 +1,13 @@
 -- `bytes_to_samples` meets its contract: the checks in turn, then all samples. Assumes nothing.
-use mathlib.Core.Path.{_≡_, sym}
-use mathlib.Core.Bool.{true, false}
-use Prim.Native.Nat.{ℕ, _/_, _%_}
 use borrow.Author.Needs.{needs}
-use borrow.Author.Tests.{eq-eqb, ne-eqb}
-use lib.Dec.{eqb}
 use lib.ListN.{length}
 use Rattle.answers.proofs.Branches.{judging}
 use Rattle.wave.specs.Samples.{blockFrom}
 use Rattle.wave.specs.Values.{sizeOf}
+use Rattle.wave.proofs.ByTest.{dividing}
 use Rattle.wave.proofs.Taking.{whole-is}
 use Rattle.wave.proofs.samples.bytes_to_samples.Statement.{statement}
 use Rattle.wave.proofs.samples.bytes_to_samples.Tie as tie
-
--- the tests, with the size that was answered
-module _ (m n size k : ℕ) (e : k ≡ size) where
-  part : (n % k ≡ 0 → ⊥) → eqb (n % size) 0 ≡ false
-  part h = rw (sym e) (ne-eqb (n % k) 0 h)
-
-  whole : n % k ≡ 0 → eqb (n % size) 0 ≡ true
-  whole h = rw (sym e) (eq-eqb (n % k) 0 h)
-
-  other : (m ≡ n / k → ⊥) → eqb m (n / size) ≡ false
-  other h = rw (sym e) (ne-eqb m (n / k) h)
-
-  fitting : m ≡ n / k → eqb m (n / size) ≡ true
-  fitting h = rw (sym e) (eq-eqb m (n / k) h)
-
-ruleset sized = (judging, part, whole, other, fitting)
 
 take-all-requires : tie.Need-take-all-requires
 take-all-requires c κs =
@@ -46,9 +26,9 @@ bytes-to-samples-spec =
     (λ c κs. search needs)
     (λ c. search needs)
     (λ c. search needs)
-    (λ c. search sized depth 12)
+    (λ c. search (judging, dividing) depth 12)
     (λ c. search needs)
-    (λ c. search sized depth 12)
+    (λ c. search (judging, dividing) depth 12)
     take-all-requires
     (λ c. search needs)
-    (λ c. search sized depth 12))
+    (λ c. search (judging, dividing) depth 12))

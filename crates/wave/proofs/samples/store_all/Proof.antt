@@ -26,12 +26,6 @@ abbrev μ-loop : tie.MeasureT-loop
 loop-holds : tie.Need-loop-holds Inv-loop μ-loop
 loop-holds c = let e = c .before in storing-start (e .args .samples .now) (e .args .buffer .now) (e .pre .0)
 
-mul-code-of : tie.Need-mul-code-of Inv-loop μ-loop
-mul-code-of c = omega arith
-
-shared-slice-copy-out-code-of : tie.Need-shared-slice-copy-out-code-of Inv-loop μ-loop
-shared-slice-copy-out-code-of c = omega arith
-
 code-of-requires : tie.Need-code-of-requires Inv-loop μ-loop
 code-of-requires c κs =
     let at-loop = c .before .before .before in
@@ -42,15 +36,6 @@ code-of-requires c κs =
 
 put-code-requires : tie.Need-put-code-requires Inv-loop μ-loop
 put-code-requires c κs = (omega arith, c .code-of .ensures .1)
-
-add-i : tie.Need-add-i Inv-loop μ-loop
-add-i c = omega arith
-
-add-at : tie.Need-add-at Inv-loop μ-loop
-add-at c = omega arith
-
-loop-less : tie.Need-loop-less Inv-loop μ-loop
-loop-less c = omega arith
 
 loop-again : tie.Need-loop-again Inv-loop μ-loop
 loop-again c =
@@ -83,13 +68,13 @@ store-all-spec =
     Inv-loop
     μ-loop
     loop-holds
-    mul-code-of
-    shared-slice-copy-out-code-of
+    (λ c. omega arith)
+    (λ c. omega arith)
     code-of-requires
     put-code-requires
-    add-i
-    add-at
-    loop-less
+    (λ c. omega arith)
+    (λ c. omega arith)
+    (λ c. omega arith)
     loop-again
     same-length
     returns)

@@ -5,27 +5,6 @@ use borrow.Author.Needs.{needs}
 use Rattle.wave.proofs.writer.put_header.Statement.{statement}
 use Rattle.wave.proofs.writer.put_header.Tie as tie
 
-add-put-chunk : tie.Need-add-put-chunk
-add-put-chunk c = search needs
-
-put-chunk-requires : tie.Need-put-chunk-requires
-put-chunk-requires c κs = search needs
-
-put-name-requires : tie.Need-put-name-requires
-put-name-requires c κs = search needs
-
-put-chunk-requires-2 : tie.Need-put-chunk-requires-2
-put-chunk-requires-2 c κs = search needs
-
-put-format-requires : tie.Need-put-format-requires
-put-format-requires c κs = search needs
-
-put-chunk-requires-3 : tie.Need-put-chunk-requires-3
-put-chunk-requires-3 c κs = search needs
-
-same-length : tie.Need-same-length
-same-length c = search needs
-
 returns : tie.Need-returns
 returns c =
     let m₅ = c .before .before in
@@ -42,11 +21,11 @@ pub put-header-spec : {M : Type 1} → statement M
 put-header-spec =
     tie.close
     (tie.spec
-    add-put-chunk
-    put-chunk-requires
-    put-name-requires
-    put-chunk-requires-2
-    put-format-requires
-    put-chunk-requires-3
-    same-length
+    (λ c. search needs)
+    (λ c κs. search needs)
+    (λ c κs. search needs)
+    (λ c κs. search needs)
+    (λ c κs. search needs)
+    (λ c κs. search needs)
+    (λ c. search needs)
     returns)

@@ -1,0 +1,122 @@
+-- Every answer of every call but the reader's can be returned. Assumes nothing.
+use mathlib.Core.Path.{_≡_, refl}
+use mathlib.Core.Bool.{true, false}
+use mathlib.Core.List.{List, [], _∷_}
+use Prim.Native.Nat.{ℕ, _+_, _*_, _-_, _<_, _≤_, _^_}
+use native.Mathlib.Omega.{arith}
+use borrow.Author.Tests.{leb-true, le-ltb}
+use lib.Dec.{eqb, leb, ltb, lit<}
+use lib.ListN.{length}
+use lib.IntN.{ℤ, pos, negsuc, natAbs, _-ℤ_, _*ℤ_}
+use lib.Signed.{ltZ, _≤ℤ_}
+use Rattle.answers.specs.Checks.{check}
+use Rattle.answers.specs.Unit.{blockLimit}
+use Rattle.answers.proofs.Laws.{every, chosen-every, eaching}
+use Rattle.whole.proofs.Signed.{down, Diff, lit, _⊖_, _⊗_, about, read-le}
+use Rattle.octave.specs.Answer.{lengthAnswer, preparedAnswer, blockAnswer}
+use Rattle.octave.specs.Block.{blockChecks, equalised, blockOf}
+use Rattle.octave.specs.Memory.{memoryLength, countAllowed, memoryLengthOf, prepared, prepareChecks, prepareOf}
+use Rattle.octave.specs.declared.block.Blocked.{Blocked}
+use Rattle.octave.specs.declared.block.Blocked.the-variants.{Written}
+use Rattle.octave.specs.declared.memory.Length.{Length}
+use Rattle.octave.specs.declared.memory.Length.the-variants.{Places, BandCount}
+use Rattle.octave.specs.declared.memory.Prepared.{Prepared}
+use Rattle.octave.specs.declared.memory.Prepared.the-variants.{Delay}
+use Rattle.octave.proofs.Layouts.{line-small, lines-small}
+use Rattle.octave.proofs.Ranges.{count-of}
+use Rattle.gain.specs.Answer.{answerOf}
+use Rattle.gain.specs.Promise.{commandGain}
+use Rattle.gain.specs.declared.Command.{Command}
+use Rattle.gain.specs.declared.Gained.{Gained}
+use Rattle.gain.specs.declared.Gained.the-variants.{Gain, NotHalfDecibels, NotFactor}
+use Rattle.gain.proofs.Answers.{within}
+use Rattle.wave.specs.Bytes.{number, little}
+use Rattle.wave.specs.Header.{header, writeChecks, writeOf, writeAnswer}
+use Rattle.wave.specs.Sample.{codeOf, numberOf, sampleIn, fromBytes, putChecks, toBytes, sampleAnswer, putAnswer}
+use Rattle.wave.specs.declared.format.Format.{Format}
+use Rattle.wave.specs.declared.format.Format.the-variants.{Bits16, Bits24}
+use Rattle.wave.specs.declared.sample.Put.{Put}
+use Rattle.wave.specs.declared.sample.Put.the-variants.{Done}
+use Rattle.wave.specs.declared.sample.Sample.{Sample}
+use Rattle.wave.specs.declared.writer.Written as writer
+use Rattle.wave.proofs.ByTest.{cond-case}
+use Rattle.capi.specs.Encode.{halfway}
+use Rattle.capi.specs.Parts.{Returnable, Counted}
+
+-- ---- the equaliser's calls
+
+places-small : (bands : ℤ) → countAllowed bands ≡ true → memoryLength (natAbs bands) < 2 ^ 63
+places-small bands t = omega (arith, lines-small (natAbs bands) (count-of bands t .most))
+
+delay-small : (bands : ℤ) → countAllowed bands ≡ true → 9 * (2 ^ (natAbs bands - 1) - 1) < 2 ^ 63
+delay-small bands t = omega (arith, line-small (natAbs bands) (count-of bands t .most))
+
+samples-few : (input : List ℤ) → leb (length input) blockLimit ≡ true → length input < 2 ^ 63
+samples-few input t = omega (arith, leb-true (length input) blockLimit t)
+
+pub length-counted : (bands : ℤ) → Counted (lengthAnswer (memoryLengthOf bands))
+length-counted bands =
+    chosen-every (Places (memoryLength (natAbs bands))) (λ (r : Length). Counted (lengthAnswer r)) (check (countAllowed bands) BandCount ∷ [])
+    (search (eaching, places-small) depth 12)
+
+pub prepare-counted : (bands : ℤ) (memory : List ℤ) → Counted (preparedAnswer (prepareOf bands memory .result))
+prepare-counted bands memory =
+    every memory (prepared (natAbs bands)) (Delay (9 * (2 ^ (natAbs bands - 1) - 1))) (λ (r : Prepared). Counted (preparedAnswer r)) (prepareChecks bands memory)
+    (search (eaching, delay-small) depth 12)
+
+pub block-counted : (memory gains input output : List ℤ) → Counted (blockAnswer (blockOf memory gains input output .result))
+block-counted memory gains input output =
+    every (memory, output) (equalised memory gains input) (Written (length input)) (λ (r : Blocked). Counted (blockAnswer r)) (blockChecks memory gains input output)
+    (search (eaching, samples-few) depth 20)
+
+-- ---- the header's writer and the codec
+
+pub write-counted : (buffer : List ℕ) (rate size : ℕ) → Counted (writeAnswer (writeOf buffer rate size .result))
+unfolding writeOf
+write-counted buffer rate size =
+    every buffer (header rate size) (writer.the-variants.Header 44) (λ (r : writer.Written). Counted (writeAnswer r)) (writeChecks buffer rate size)
+    (search eaching depth 12)
+
+pub put-counted : (z : ℤ) (buffer : List ℕ) → Counted (putAnswer (toBytes z buffer .result))
+unfolding toBytes
+put-counted z buffer =
+    every buffer (little 3 (codeOf z)) (Done 3) (λ (r : Put). Counted (putAnswer r)) (putChecks z buffer) (search eaching depth 12)
+
+-- a number that is not far below zero is no refusal's code
+not-far : (x : Diff) → x .n ≤ 2 ^ 62 + x .p → ltZ (x .z) halfway ≡ false
+not-far x h = by (x .z) (omega (arith, x .same, about (x .z)))
+  where
+    by : (z : ℤ) → down z ≤ 2 ^ 62 → ltZ z halfway ≡ false
+    by (pos n) h = refl
+    by (negsuc n) h = le-ltb 4611686018427387903 n (omega arith)
+
+sample-near : (f : Format) (s : List ℕ) → ltZ (sampleIn f s) halfway ≡ false
+unfolding sampleIn numberOf
+sample-near Bits16 s =
+    let k : ℕ = number s in
+    cond-case (λ (z : ℤ). ltZ (z *ℤ pos 256) halfway ≡ false) (pos k) (pos k -ℤ pos (2 ^ 16)) (ltb k (2 ^ 15))
+    (λ _. not-far (lit k ⊗ lit 256) (omega arith)) (λ _. not-far ((lit k ⊖ lit (2 ^ 16)) ⊗ lit 256) (omega arith))
+sample-near Bits24 s =
+    let k : ℕ = number s in
+    cond-case (λ (z : ℤ). ltZ z halfway ≡ false) (pos k) (pos k -ℤ pos (2 ^ 24)) (ltb k (2 ^ 23))
+    (λ _. refl) (λ _. not-far (lit k ⊖ lit (2 ^ 24)) (omega arith))
+
+pub sample-returnable : (s : List ℕ) → Returnable (sampleAnswer (fromBytes s))
+unfolding fromBytes
+sample-returnable s =
+    cond-case P _ _ (eqb (length s) 2) (λ _. sample-near Bits16 s)
+    (λ _. cond-case P _ _ (eqb (length s) 3) (λ _. sample-near Bits24 s) (λ _. search lit<))
+  where
+    P : Sample → Type 0
+    P r = Returnable (sampleAnswer r)
+
+-- ---- the gain commands
+
+pub gain-returnable : (c : Command) → Returnable (answerOf (commandGain c))
+gain-returnable c = by (commandGain c) (within c)
+  where
+    by : (r : Gained) → ((g : ℤ) → r ≡ Gain g → (pos 0 ≤ℤ g) × (g ≤ℤ pos 16384)) → Returnable (answerOf r)
+    by (Gain (pos n)) h = refl
+    by (Gain (negsuc n)) h = absurd (omega (arith, read-le (pos 0) (negsuc n) (h (negsuc n) refl .0)))
+    by NotHalfDecibels h = search lit<
+    by NotFactor h = search lit<

@@ -1,0 +1,9 @@
+-- The front part of a list.
+use mathlib.Core.Path.{_≡_}
+use mathlib.Core.List.{List}
+use Prim.Native.Nat.{ℕ, _≤_, min}
+use lib.ListN.{length, take}
+
+-- r places at the front of s, n if there are so many. The second and the third half follow from the first; lending that part asks for them.
+abbrev pub Front : {A : Type 0} → ℕ → ℕ → List A → Type 0
+Front n r s = (r ≡ min n (length s)) × (r ≤ length s) × (r ≡ length (take r s))

@@ -1,0 +1,60 @@
+"""The gain commands, on floats as their bits."""
+from fractions import Fraction
+
+SIGN = 1 << 31
+
+
+def value(bits):
+    """The number that a binary32 pattern stands for, or None for a NaN and an infinity."""
+    sign = -1 if bits & SIGN else 1
+    exponent = bits >> 23 & 255
+    digits = bits & (1 << 23) - 1
+    if exponent == 255:
+        return None
+    if exponent == 0:
+        return sign * Fraction(digits, 1 << 149)
+    return sign * Fraction((1 << 23) + digits) * Fraction(2) ** (exponent - 150)
+
+
+def pattern(number):
+    """The pattern of a number that binary32 holds: not negative, and 0 or normal."""
+    if number == 0:
+        return 0
+    exponent = 127
+    while number >= 2:
+        number, exponent = number / 2, exponent + 1
+    while number < 1:
+        number, exponent = number * 2, exponent - 1
+    digits = (number - 1) * (1 << 23)
+    assert digits.denominator == 1 and 0 < exponent < 255
+    return exponent << 23 | digits.numerator
+
+
+def entry(n):
+    """The one g that the page's inequalities give to n half decibels, by fortieth powers."""
+    up, down = (10**n, 1) if n >= 0 else (1, 10**-n)
+    found = [g for g in range(1, 16385) if (2 * g - 1) ** 40 * down <= 8192**40 * up < (2 * g + 1) ** 40 * down]
+    assert len(found) == 1
+    return found[0]
+
+
+GAINS = {n: entry(n) for n in range(-24, 25)}
+
+
+def decibels(bits):
+    """The gain of decibels, or refusal 11."""
+    x = value(bits)
+    if x is not None:
+        for n, gain in GAINS.items():
+            if x == Fraction(n, 2):
+                return ("gain", gain)
+    return ("refused", 11)
+
+
+def factor(bits):
+    """The gain of a factor, a tie upward, or refusal 12."""
+    x = value(bits)
+    if x is None or not 0 <= x <= 4:
+        return ("refused", 12)
+    below = x * 4096 // 1
+    return ("gain", below + (1 if x * 4096 - below >= Fraction(1, 2) else 0))

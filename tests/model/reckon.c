@@ -1,0 +1,53 @@
+/* reckon GAIN.. <samples >outputs: 24-bit samples through the tree, a gain for each band, lowest first. The delay is taken out, and
+   zeros follow the input: for eight gains, what eqwave has to write. */
+#include <stdio.h>
+#include <stdlib.h>
+#include <string.h>
+#include "tree.h"
+
+enum { ROOM = TREE_LINE };
+
+static struct tree tree;
+static int32_t gains[TREE_MOST_BANDS], input[ROOM], output[ROOM];
+static int left_out;
+
+/* Reads up to ROOM samples. */
+static size_t get(void)
+{
+    uint8_t bytes[3];
+    size_t n = 0;
+    while (n < ROOM && fread(bytes, 1, 3, stdin) == 3) {
+        int32_t z = bytes[0] | bytes[1] << 8 | bytes[2] << 16;
+        input[n++] = z < 8388608 ? z : z - 16777216;
+    }
+    return n;
+}
+
+/* Equalises so many samples and writes those that come after the delay. */
+static void put(size_t n)
+{
+    tree_block(&tree, gains, input, output, n);
+    for (size_t i = 0; i < n; i++)
+        if (left_out > 0)
+            left_out--;
+        else
+            putchar(output[i] & 255), putchar(output[i] >> 8 & 255), putchar(output[i] >> 16 & 255);
+}
+
+int main(int argc, char **argv)
+{
+    int bands = argc - 1;
+    size_t n;
+    if (bands < 2 || bands > TREE_MOST_BANDS)
+        return 1;
+    for (int i = 0; i < bands; i++)
+        gains[i] = atoi(argv[i + 1]);
+    tree_prepare(&tree, bands);
+    size_t delay = 9 * ((1u << (bands - 1)) - 1);
+    left_out = (int)delay;
+    while ((n = get()) > 0)
+        put(n);
+    memset(input, 0, sizeof input);
+    put(delay);
+    return fflush(stdout) ? 1 : 0;
+}

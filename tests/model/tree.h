@@ -1,0 +1,20 @@
+/* The tree in plain C: rings, eleven products, a compare for each ring index. The tests hold the archive and the program to it, and it
+   to model/tree.py; the bench times the archive beside it. A memory's places are in the order of docs/LAYOUT.md. */
+#ifndef TREE_H
+#define TREE_H
+
+#include <stddef.h>
+#include <stdint.h>
+
+enum { TREE_MOST_BANDS = 10, TREE_LINE = 9 << 9 };
+
+/* line[0] is the ring of line M, the input. */
+struct tree {
+    int bands, size, position;
+    int32_t line[TREE_MOST_BANDS - 1][TREE_LINE];
+};
+
+void tree_prepare(struct tree *tree, int bands);
+void tree_block(struct tree *tree, const int32_t *gains, const int32_t *input, int32_t *output, size_t length);
+
+#endif

@@ -1,0 +1,117 @@
+"""WAVE files: building them, reading their header, and the sample codec."""
+import struct
+
+RATES = (44100, 48000)
+
+
+# ---- the builder: each part may be made wrong
+
+
+def chunk(name, contents, size=None):
+    """A chunk, with the length of its contents or another."""
+    return name + struct.pack("<I", len(contents) if size is None else size) + contents
+
+
+def fmt(rate=48000, bits=24, tag=1, channels=1, block=None, byte_rate=None):
+    """A `fmt ` chunk."""
+    block = bits // 8 if block is None else block
+    byte_rate = rate * block if byte_rate is None else byte_rate
+    return chunk(b"fmt ", struct.pack("<HHIIHH", tag, channels, rate, byte_rate, block, bits))
+
+
+def riff(*chunks, size=None, first=b"RIFF", form=b"WAVE"):
+    """A file of chunks."""
+    body = form + b"".join(chunks)
+    return first + struct.pack("<I", len(body) if size is None else size) + body
+
+
+def file24(data, rate=48000):
+    """A file of 24-bit samples."""
+    return riff(fmt(rate), chunk(b"data", data))
+
+
+# 01, The program: the whole case. The samples are 1 and -1.
+WHOLE = bytes.fromhex(
+    "52 49 46 46 2A 00 00 00 57 41 56 45 66 6D 74 20 10 00 00 00 01 00 01 00 80 BB 00 00 80 32 02 00 03 00 18 00 64 61 74 61"
+    "06 00 00 00 01 00 00 FF FF FF"
+)
+assert file24(WHOLE[44:]) == WHOLE
+
+
+# ---- the header
+
+
+def little(data):
+    """A number of so many bytes, the lowest first."""
+    return int.from_bytes(data, "little")
+
+
+def right(body):
+    """Whether the contents of a `fmt ` chunk have the right values."""
+    tag, channels, rate, byte_rate, block, bits = struct.unpack("<HHIIHH", body)
+    return (tag, channels) == (1, 1) and rate in RATES and bits in (16, 24) and block * 8 == bits and byte_rate == rate * block
+
+
+def read(lent):
+    """The reader: (rate, bits, length, start), or a refusal number."""
+    front = lent[:4096]
+    if len(front) < 12 or front[:4] != b"RIFF" or front[8:12] != b"WAVE":
+        return 21
+    at, sound = 12, None
+    while True:
+        if at + 8 > len(front):
+            return 24
+        name, size = front[at : at + 4], little(front[at + 4 : at + 8])
+        if name == b"fmt ":
+            if size != 16:
+                return 23
+            if at + 24 > len(front):
+                return 24
+            body = front[at + 8 : at + 24]
+            if sound or not right(body):
+                return 23
+            sound = (little(body[4:8]), little(body[14:16]))
+        elif name == b"data":
+            if not sound:
+                return 22
+            if size % (sound[1] // 8):
+                return 25
+            return (*sound, size, at + 8)
+        at += 8 + size
+
+
+def write(room, rate, length):
+    """The writer: the header of so many bytes of 24-bit samples, or a refusal number."""
+    if room != 44:
+        return 27
+    if rate not in RATES:
+        return 28
+    if length % 3 or length > 4294967259:
+        return 26
+    return riff(fmt(rate), chunk(b"data", b"", length), size=length + 36)
+
+
+# ---- the codec
+
+
+def in_range(z):
+    """Whether a number is a sample."""
+    return -8388608 <= z <= 8388607
+
+
+def sample(data):
+    """The sample in two or three bytes, or None for another number of them."""
+    if len(data) not in (2, 3):
+        return None
+    return int.from_bytes(data, "little", signed=True) * (256 if len(data) == 2 else 1)
+
+
+def samples(data, bits=24):
+    """The samples in bytes, as many as are wholly there."""
+    size = bits // 8
+    return [sample(data[i : i + size]) for i in range(0, len(data) - size + 1, size)]
+
+
+def to_bytes(values):
+    """Three bytes for each sample."""
+    return b"".join((z % 2**24).to_bytes(3, "little") for z in values)
