@@ -10,7 +10,7 @@ use lib.Seq.{take-all}
 use lib.IntN.{ℤ, pos}
 use Rattle.answers.specs.Checks.{Outcome, decide}
 use Rattle.answers.specs.Range.{allWithin}
-use Rattle.answers.specs.Unit.{leastSample, mostSample, blockLimit, largestGain}
+use Rattle.answers.specs.Unit.{blockLimit, largestGain}
 use Rattle.tree.specs.Prototype.{published}
 use Rattle.tree.specs.Signal.{gainOf}
 use Rattle.octave.specs.declared.block.Blocked.{Blocked}
@@ -23,7 +23,7 @@ use Rattle.octave.proofs.Memories.{accepts-is}
 use Rattle.octave.proofs.Running.{next-inside, region-moved}
 use Rattle.octave.proofs.Samples.{step-length}
 use Rattle.octave.proofs.Calls.{prepared-holds}
-use Rattle.wave.specs.Samples.{bytesOf, blockTo}
+use Rattle.wave.specs.Samples.{bytesOf}
 use Rattle.wave.specs.declared.samples.Stored.{Stored}
 use Rattle.wave.proofs.Storing.{length-bytes}
 use Rattle.wave.proofs.Codec.{to-all}

@@ -12,7 +12,7 @@ use lib.Dec.{ltb}
 use lib.ListN.{length, take, drop, length-drop}
 use lib.Seq.{take-all}
 use lib.IntN.{ℤ}
-use Rattle.answers.specs.Checks.{Outcome, Done, decide}
+use Rattle.answers.specs.Checks.{Outcome, Done}
 use Rattle.answers.specs.Judging.{Each}
 use Rattle.answers.proofs.Laws.{every}
 use Rattle.octave.specs.Block.{blockOf}

@@ -35,7 +35,6 @@ slice-aggregate-equalise-3 c = let s = c .before .before .before .before .before
 slice-aggregate-equalise-4 : tie.Need-slice-aggregate-equalise-4
 slice-aggregate-equalise-4 c = let s = c .before .before .before .before .before .before .before in sym (length-take-le _ (now (s .args .stored)) (s .pre .stored-room))
 
-
 slice-reshare-prefix-write-all : tie.Need-slice-reshare-prefix-write-all
 slice-reshare-prefix-write-all c = in-front _ (c .before .before .before .before .before .equalise .last .1 .1 .1 .1 .1 .1 .1 .0) _ (counted (c .before .before .before .before .before))
 
