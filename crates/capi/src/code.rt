@@ -4,19 +4,11 @@ ghost use Prim.Native.Nat.{_<_, _^_};
 ghost use lib.IntN.{pos};
 ghost use Rattle.capi.specs.Parts.{encodeParts};
 
-// The parts of an answer that is a count: the number of a refusal and its place, 0 where there is none, and the value.
-pub(crate) struct CountParts {
-    pub number: u8,
-    pub place: usize,
-    pub value: usize,
-}
+// The parts of an answer that is a count: the number of a refusal, 0 where there is none, its place, and the value.
+pub(crate) struct CountParts(pub u8, pub usize, pub usize);
 
 // .. and of one with a sign.
-pub(crate) struct SignedParts {
-    pub number: u8,
-    pub place: usize,
-    pub value: i32,
-}
+pub(crate) struct SignedParts(pub u8, pub usize, pub i32);
 
 fn encoded(number: u8, place: usize, value: i64) -> i64
     requires { ⌜ place < 2 ^ 54 ⌝ }
@@ -29,15 +21,15 @@ fn encoded(number: u8, place: usize, value: i64) -> i64
 }
 
 pub(crate) fn count(a: CountParts) -> i64
-    requires { ⌜ (a .place < 2 ^ 54) × (a .value < 2 ^ 63) ⌝ }
-    ensures { λ r. ⌜ r ≡ encodeParts (a .number) (a .place) (pos (a .value)) ⌝ }
+    requires { ⌜ (a .1 < 2 ^ 54) × (a .2 < 2 ^ 63) ⌝ }
+    ensures { λ r. ⌜ r ≡ encodeParts (a .0) (a .1) (pos (a .2)) ⌝ }
 {
-    encoded(a.number, a.place, a.value as i64)
+    encoded(a.0, a.1, a.2 as i64)
 }
 
 pub(crate) fn signed(a: SignedParts) -> i64
-    requires { ⌜ a .place < 2 ^ 54 ⌝ }
-    ensures { λ r. ⌜ r ≡ encodeParts (a .number) (a .place) (a .value) ⌝ }
+    requires { ⌜ a .1 < 2 ^ 54 ⌝ }
+    ensures { λ r. ⌜ r ≡ encodeParts (a .0) (a .1) (a .2) ⌝ }
 {
-    encoded(a.number, a.place, a.value as i64)
+    encoded(a.0, a.1, a.2 as i64)
 }

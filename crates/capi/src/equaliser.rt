@@ -16,83 +16,35 @@ ghost use Rattle.capi.specs.Encode.{encode};
 ghost use Rattle.capi.specs.Parts.{Parts};
 
 fn length_parts(answer: Length) -> CountParts
-    ensures { λ r. ⌜ Parts 0 (lengthAnswer answer) (r .number) (r .place) (r .value) ⌝ }
+    ensures { λ r. ⌜ Parts 0 (lengthAnswer answer) (r .0) (r .1) (r .2) ⌝ }
 {
     match answer {
-        Length::Places(n) => CountParts {
-            number: 0,
-            place: 0,
-            value: n,
-        },
-        Length::BandCount => CountParts {
-            number: 1,
-            place: 0,
-            value: 0,
-        },
+        Length::Places(n) => CountParts(0, 0, n),
+        Length::BandCount => CountParts(1, 0, 0),
     }
 }
 
 fn prepared_parts(answer: Prepared) -> CountParts
-    ensures { λ r. ⌜ Parts 0 (preparedAnswer answer) (r .number) (r .place) (r .value) ⌝ }
+    ensures { λ r. ⌜ Parts 0 (preparedAnswer answer) (r .0) (r .1) (r .2) ⌝ }
 {
     match answer {
-        Prepared::Delay(t) => CountParts {
-            number: 0,
-            place: 0,
-            value: t,
-        },
-        Prepared::BandCount => CountParts {
-            number: 1,
-            place: 0,
-            value: 0,
-        },
-        Prepared::MemoryLength => CountParts {
-            number: 2,
-            place: 0,
-            value: 0,
-        },
+        Prepared::Delay(t) => CountParts(0, 0, t),
+        Prepared::BandCount => CountParts(1, 0, 0),
+        Prepared::MemoryLength => CountParts(2, 0, 0),
     }
 }
 
 fn block_parts(answer: Blocked) -> CountParts
-    ensures { λ r. ⌜ Parts 0 (blockAnswer answer) (r .number) (r .place) (r .value) ⌝ }
+    ensures { λ r. ⌜ Parts 0 (blockAnswer answer) (r .0) (r .1) (r .2) ⌝ }
 {
     match answer {
-        Blocked::Written(n) => CountParts {
-            number: 0,
-            place: 0,
-            value: n,
-        },
-        Blocked::Memory => CountParts {
-            number: 3,
-            place: 0,
-            value: 0,
-        },
-        Blocked::GainCount => CountParts {
-            number: 4,
-            place: 0,
-            value: 0,
-        },
-        Blocked::Gain => CountParts {
-            number: 5,
-            place: 0,
-            value: 0,
-        },
-        Blocked::OutputLength => CountParts {
-            number: 6,
-            place: 0,
-            value: 0,
-        },
-        Blocked::TooLong => CountParts {
-            number: 7,
-            place: 0,
-            value: 0,
-        },
-        Blocked::Sample => CountParts {
-            number: 8,
-            place: 0,
-            value: 0,
-        },
+        Blocked::Written(n) => CountParts(0, 0, n),
+        Blocked::Memory => CountParts(3, 0, 0),
+        Blocked::GainCount => CountParts(4, 0, 0),
+        Blocked::Gain => CountParts(5, 0, 0),
+        Blocked::OutputLength => CountParts(6, 0, 0),
+        Blocked::TooLong => CountParts(7, 0, 0),
+        Blocked::Sample => CountParts(8, 0, 0),
     }
 }
 

@@ -12,24 +12,12 @@ ghost use Rattle.capi.specs.Encode.{encode};
 ghost use Rattle.capi.specs.Parts.{Parts};
 
 fn gain_parts(answer: Gained) -> SignedParts
-    ensures { λ r. ⌜ Parts (pos 0) (answerOf answer) (r .number) (r .place) (r .value) ⌝ }
+    ensures { λ r. ⌜ Parts (pos 0) (answerOf answer) (r .0) (r .1) (r .2) ⌝ }
 {
     match answer {
-        Gained::Gain(g) => SignedParts {
-            number: 0,
-            place: 0,
-            value: g,
-        },
-        Gained::NotHalfDecibels => SignedParts {
-            number: 11,
-            place: 0,
-            value: 0,
-        },
-        Gained::NotFactor => SignedParts {
-            number: 12,
-            place: 0,
-            value: 0,
-        },
+        Gained::Gain(g) => SignedParts(0, 0, g),
+        Gained::NotHalfDecibels => SignedParts(11, 0, 0),
+        Gained::NotFactor => SignedParts(12, 0, 0),
     }
 }
 

@@ -18,7 +18,7 @@ ghost use Rattle.capi.specs.Found.{ofFound, foundAfter};
 ghost use Rattle.capi.specs.Parts.{Parts, StartFits};
 
 fn read_parts(answer: Reading) -> CountParts
-    ensures { λ r. ⌜ Parts 0 (ofFound (readAnswer answer)) (r .number) (r .place) (r .value) ⌝ }
+    ensures { λ r. ⌜ Parts 0 (ofFound (readAnswer answer)) (r .0) (r .1) (r .2) ⌝ }
 {
     match answer {
         Reading::Accepted {
@@ -26,36 +26,12 @@ fn read_parts(answer: Reading) -> CountParts
             format: _,
             length: _,
             start: _,
-        } => CountParts {
-            number: 0,
-            place: 0,
-            value: 4,
-        },
-        Reading::NotWave => CountParts {
-            number: 21,
-            place: 0,
-            value: 0,
-        },
-        Reading::NoFormat => CountParts {
-            number: 22,
-            place: 0,
-            value: 0,
-        },
-        Reading::WrongFormat => CountParts {
-            number: 23,
-            place: 0,
-            value: 0,
-        },
-        Reading::CutOff => CountParts {
-            number: 24,
-            place: 0,
-            value: 0,
-        },
-        Reading::PartSample => CountParts {
-            number: 25,
-            place: 0,
-            value: 0,
-        },
+        } => CountParts(0, 0, 4),
+        Reading::NotWave => CountParts(21, 0, 0),
+        Reading::NoFormat => CountParts(22, 0, 0),
+        Reading::WrongFormat => CountParts(23, 0, 0),
+        Reading::CutOff => CountParts(24, 0, 0),
+        Reading::PartSample => CountParts(25, 0, 0),
     }
 }
 
@@ -78,68 +54,32 @@ fn store(answer: Reading, found: &mut [u32; 4])
 }
 
 fn write_parts(answer: Written) -> CountParts
-    ensures { λ r. ⌜ Parts 0 (writeAnswer answer) (r .number) (r .place) (r .value) ⌝ }
+    ensures { λ r. ⌜ Parts 0 (writeAnswer answer) (r .0) (r .1) (r .2) ⌝ }
 {
     match answer {
-        Written::Header(n) => CountParts {
-            number: 0,
-            place: 0,
-            value: n,
-        },
-        Written::WrongBuffer => CountParts {
-            number: 27,
-            place: 0,
-            value: 0,
-        },
-        Written::WrongRate => CountParts {
-            number: 28,
-            place: 0,
-            value: 0,
-        },
-        Written::WrongLength => CountParts {
-            number: 26,
-            place: 0,
-            value: 0,
-        },
+        Written::Header(n) => CountParts(0, 0, n),
+        Written::WrongBuffer => CountParts(27, 0, 0),
+        Written::WrongRate => CountParts(28, 0, 0),
+        Written::WrongLength => CountParts(26, 0, 0),
     }
 }
 
 fn sample_parts(answer: Sample) -> SignedParts
-    ensures { λ r. ⌜ Parts (pos 0) (sampleAnswer answer) (r .number) (r .place) (r .value) ⌝ }
+    ensures { λ r. ⌜ Parts (pos 0) (sampleAnswer answer) (r .0) (r .1) (r .2) ⌝ }
 {
     match answer {
-        Sample::Is(z) => SignedParts {
-            number: 0,
-            place: 0,
-            value: z,
-        },
-        Sample::WrongLength => SignedParts {
-            number: 18,
-            place: 0,
-            value: 0,
-        },
+        Sample::Is(z) => SignedParts(0, 0, z),
+        Sample::WrongLength => SignedParts(18, 0, 0),
     }
 }
 
 fn put_parts(answer: Put) -> CountParts
-    ensures { λ r. ⌜ Parts 0 (putAnswer answer) (r .number) (r .place) (r .value) ⌝ }
+    ensures { λ r. ⌜ Parts 0 (putAnswer answer) (r .0) (r .1) (r .2) ⌝ }
 {
     match answer {
-        Put::Done(n) => CountParts {
-            number: 0,
-            place: 0,
-            value: n,
-        },
-        Put::WrongLength => CountParts {
-            number: 18,
-            place: 0,
-            value: 0,
-        },
-        Put::OutOfRange => CountParts {
-            number: 19,
-            place: 0,
-            value: 0,
-        },
+        Put::Done(n) => CountParts(0, 0, n),
+        Put::WrongLength => CountParts(18, 0, 0),
+        Put::OutOfRange => CountParts(19, 0, 0),
     }
 }
 

@@ -11,7 +11,7 @@ use Rattle.capi.proofs.code.count.Tie as tie
 returns : tie.Need-returns
 returns c =
     let s = c .before .before in
-    returned (c .encoded .ensures ∙ ap (encodeParts (s .args .a .number) (s .args .a .place)) (toZ-pos w64 (s .pre .1))) (c .encoded .ok)
+    returned (c .encoded .ensures ∙ ap (encodeParts (s .args .a .0) (s .args .a .1)) (toZ-pos w64 (s .pre .1))) (c .encoded .ok)
 
 pub count-spec : {M : Type 1} → statement M
 count-spec = tie.close (tie.spec (λ c. search needs) (λ c κs. search needs) returns)
