@@ -20,7 +20,7 @@ use Rattle.capi.specs.Found.{ofFound}
 use Rattle.capi.specs.Parts.{Returnable, Counted}
 use Rattle.capi.proofs.Decoded.{decode-encode}
 use Rattle.capi.proofs.Encoding.{returnable-apart, counted-apart}
-use Rattle.capi.proofs.Reading.{read-returnable}
+use Rattle.capi.proofs.Reading.{read-counted}
 use Rattle.capi.proofs.Returnable.{length-counted, prepare-counted, block-counted, gain-returnable, write-counted, sample-returnable, put-counted}
 
 -- an answer that comes back as it went in
@@ -45,8 +45,8 @@ block-decoded memory gains input output = count-decoded (blockAnswer (blockOf me
 pub gain-decoded : (c : Command) → Decoded (answerOf (commandGain c))
 gain-decoded c = decoded (answerOf (commandGain c)) (gain-returnable c)
 
-pub read-decoded : (front : List ℕ) → Decoded (ofFound (readOf front))
-read-decoded front = decoded (ofFound (readOf front)) (read-returnable front)
+pub read-decoded : (front : List ℕ) → Decoded (ofCount (ofFound (readOf front)))
+read-decoded front = count-decoded (ofFound (readOf front)) (read-counted front)
 
 pub write-decoded : (buffer : List ℕ) (rate size : ℕ) → Decoded (ofCount (writeAnswer (writeOf buffer rate size .result)))
 write-decoded buffer rate size = count-decoded (writeAnswer (writeOf buffer rate size .result)) (write-counted buffer rate size)

@@ -18,12 +18,12 @@ use Rattle.wave.specs.declared.reader.Reading.the-variants.{Accepted, NotWave, 
 use Rattle.wave.proofs.AfterData.{accepted-start}
 use Rattle.wave.proofs.reader.Reading as reading
 use Rattle.capi.specs.Found.{ofFound, foundAfter}
-use Rattle.capi.specs.Parts.{Returnable, StartFits}
+use Rattle.capi.specs.Parts.{Counted, StartFits}
 
 -- ---- a step's answer
 
 abbrev Fine : Answer Found → Type 0
-Fine a = Returnable (ofFound a)
+Fine a = Counted (ofFound a)
 
 abbrev StepFine : Step → Type 0
 StepFine (ends answer) = Fine answer
@@ -53,9 +53,9 @@ walk-fine (suc n) front at seen = by (λ place met. walk-fine n front place met)
     by later (ends answer) h = h
     by later (on place met) h = later place met
 
-pub read-returnable : (lent : List ℕ) → Returnable (ofFound (readOf lent))
+pub read-counted : (lent : List ℕ) → Counted (ofFound (readOf lent))
 unfolding readOf judge
-read-returnable lent =
+read-counted lent =
     let front : List ℕ = take frontLength lent in
     either (leb 12 (length front) && (same (take 4 front) riff && same (take 4 (drop 8 front)) wave)) _ _ (walk-fine (length front) front 12 nothing) (search lit<)
 

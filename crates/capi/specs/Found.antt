@@ -1,14 +1,13 @@
 -- The header reader's answer and its four lent places: rate, bits, length, start.
 use mathlib.Core.List.{List}
 use Prim.Native.Nat.{ℕ}
-use lib.IntN.{ℤ, pos}
 use lib.ListN.{set}
 use Rattle.answers.specs.Answer.{Answer, accepted, refused}
 use Rattle.wave.specs.Walk.{Found}
 
 -- rule 12.7: what was found goes to the lent places; the answer is their number, 4
-abbrev pub ofFound : Answer Found → Answer ℤ
-ofFound (accepted f) = accepted (pos 4)
+abbrev pub ofFound : Answer Found → Answer ℕ
+ofFound (accepted f) = accepted 4
 ofFound (refused number place) = refused number place
 
 -- rule 12.7: the places afterwards: each of the four is set, and a refusal leaves them as they were

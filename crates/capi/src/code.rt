@@ -4,8 +4,13 @@ ghost use Prim.Native.Nat.{_<_, _^_};
 ghost use lib.IntN.{pos};
 ghost use Rattle.capi.specs.Parts.{encodeParts};
 
-// An answer from its parts: its value where the number is 0, else a refusal with that number at that place.
-pub(crate) fn encoded(number: u8, place: usize, value: i64) -> i64
+// The parts of an answer that is a count: the number of a refusal, 0 where there is none, its place, and the value.
+pub(crate) struct CountParts(pub u8, pub usize, pub usize);
+
+// .. and of one with a sign.
+pub(crate) struct SignedParts(pub u8, pub usize, pub i32);
+
+fn encoded(number: u8, place: usize, value: i64) -> i64
     requires { ⌜ place < 2 ^ 54 ⌝ }
     ensures { λ r. ⌜ r ≡ encodeParts number place value ⌝ }
 {
@@ -15,18 +20,16 @@ pub(crate) fn encoded(number: u8, place: usize, value: i64) -> i64
     -9223372036854775808 + (number as usize + 256 * place) as i64
 }
 
-// A count, from its number and its value.
-pub(crate) fn counted(number: u8, place: usize, n: usize) -> i64
-    requires { ⌜ (place < 2 ^ 54) × (n < 2 ^ 63) ⌝ }
-    ensures { λ r. ⌜ r ≡ encodeParts number place (pos n) ⌝ }
+pub(crate) fn count(a: CountParts) -> i64
+    requires { ⌜ (a .1 < 2 ^ 54) × (a .2 < 2 ^ 63) ⌝ }
+    ensures { λ r. ⌜ r ≡ encodeParts (a .0) (a .1) (pos (a .2)) ⌝ }
 {
-    encoded(number, place, n as i64)
+    encoded(a.0, a.1, a.2 as i64)
 }
 
-// A signed answer, from its number and its value.
-pub(crate) fn signed(number: u8, place: usize, z: i32) -> i64
-    requires { ⌜ place < 2 ^ 54 ⌝ }
-    ensures { λ r. ⌜ r ≡ encodeParts number place z ⌝ }
+pub(crate) fn signed(a: SignedParts) -> i64
+    requires { ⌜ a .1 < 2 ^ 54 ⌝ }
+    ensures { λ r. ⌜ r ≡ encodeParts (a .0) (a .1) (a .2) ⌝ }
 {
-    encoded(number, place, z as i64)
+    encoded(a.0, a.1, a.2 as i64)
 }

@@ -1,5 +1,6 @@
 // The equaliser's calls.
-use crate::code::counted;
+use crate::code::CountParts;
+use crate::code::count;
 use octave::block::Blocked;
 use octave::block::block;
 use octave::memory::Length;
@@ -7,77 +8,43 @@ use octave::memory::Prepared;
 use octave::memory::memory_length;
 use octave::memory::prepare;
 ghost use mathlib.Core.Path.{_≡_};
-ghost use Rattle.answers.specs.Answer.{numberIn};
 ghost use Rattle.octave.specs.Answer.{lengthAnswer, preparedAnswer, blockAnswer};
 ghost use Rattle.octave.specs.Block.{blockOf};
 ghost use Rattle.octave.specs.Memory.{memoryLengthOf, prepareOf};
 ghost use Rattle.capi.specs.Answers.{ofCount, Returned};
 ghost use Rattle.capi.specs.Encode.{encode};
-ghost use Rattle.capi.specs.Parts.{valueIn};
+ghost use Rattle.capi.specs.Parts.{Parts};
 
-fn length_number(answer: Length) -> u8
-    ensures { λ r. ⌜ r ≡ numberIn (lengthAnswer answer) ⌝ }
+fn length_parts(answer: Length) -> CountParts
+    ensures { λ r. ⌜ Parts 0 (lengthAnswer answer) (r .0) (r .1) (r .2) ⌝ }
 {
     match answer {
-        Length::Places(_) => 0,
-        Length::BandCount => 1,
+        Length::Places(n) => CountParts(0, 0, n),
+        Length::BandCount => CountParts(1, 0, 0),
     }
 }
 
-fn length_value(answer: Length) -> usize
-    ensures { λ r. ⌜ r ≡ valueIn 0 (lengthAnswer answer) ⌝ }
+fn prepared_parts(answer: Prepared) -> CountParts
+    ensures { λ r. ⌜ Parts 0 (preparedAnswer answer) (r .0) (r .1) (r .2) ⌝ }
 {
     match answer {
-        Length::Places(n) => n,
-        Length::BandCount => 0,
+        Prepared::Delay(t) => CountParts(0, 0, t),
+        Prepared::BandCount => CountParts(1, 0, 0),
+        Prepared::MemoryLength => CountParts(2, 0, 0),
     }
 }
 
-fn prepared_number(answer: Prepared) -> u8
-    ensures { λ r. ⌜ r ≡ numberIn (preparedAnswer answer) ⌝ }
+fn block_parts(answer: Blocked) -> CountParts
+    ensures { λ r. ⌜ Parts 0 (blockAnswer answer) (r .0) (r .1) (r .2) ⌝ }
 {
     match answer {
-        Prepared::Delay(_) => 0,
-        Prepared::BandCount => 1,
-        Prepared::MemoryLength => 2,
-    }
-}
-
-fn prepared_value(answer: Prepared) -> usize
-    ensures { λ r. ⌜ r ≡ valueIn 0 (preparedAnswer answer) ⌝ }
-{
-    match answer {
-        Prepared::Delay(n) => n,
-        Prepared::BandCount => 0,
-        Prepared::MemoryLength => 0,
-    }
-}
-
-fn block_number(answer: Blocked) -> u8
-    ensures { λ r. ⌜ r ≡ numberIn (blockAnswer answer) ⌝ }
-{
-    match answer {
-        Blocked::Written(_) => 0,
-        Blocked::Memory => 3,
-        Blocked::GainCount => 4,
-        Blocked::Gain => 5,
-        Blocked::OutputLength => 6,
-        Blocked::TooLong => 7,
-        Blocked::Sample => 8,
-    }
-}
-
-fn block_value(answer: Blocked) -> usize
-    ensures { λ r. ⌜ r ≡ valueIn 0 (blockAnswer answer) ⌝ }
-{
-    match answer {
-        Blocked::Written(n) => n,
-        Blocked::Memory => 0,
-        Blocked::GainCount => 0,
-        Blocked::Gain => 0,
-        Blocked::OutputLength => 0,
-        Blocked::TooLong => 0,
-        Blocked::Sample => 0,
+        Blocked::Written(n) => CountParts(0, 0, n),
+        Blocked::Memory => CountParts(3, 0, 0),
+        Blocked::GainCount => CountParts(4, 0, 0),
+        Blocked::Gain => CountParts(5, 0, 0),
+        Blocked::OutputLength => CountParts(6, 0, 0),
+        Blocked::TooLong => CountParts(7, 0, 0),
+        Blocked::Sample => CountParts(8, 0, 0),
     }
 }
 
@@ -85,16 +52,14 @@ fn block_value(answer: Blocked) -> usize
 pub extern "C" fn oeq_memory_length(bands: i32) -> i64
     ensures { λ r. ⌜ r ≡ encode (ofCount (lengthAnswer (memoryLengthOf bands))) ⌝ }
 {
-    let answer = memory_length(bands);
-    counted(length_number(answer), 0, length_value(answer))
+    count(length_parts(memory_length(bands)))
 }
 
 #[no_mangle]
 pub extern "C" fn oeq_prepare(bands: i32, memory: &mut [i32]) -> i64
     ensures { λ r. ⌜ Returned (λ a. ofCount (preparedAnswer a)) (prepareOf bands (now (memory .entry))) r (now (memory .exit)) ⌝ }
 {
-    let answer = prepare(bands, memory);
-    counted(prepared_number(answer), 0, prepared_value(answer))
+    count(prepared_parts(prepare(bands, memory)))
 }
 
 #[no_mangle]
@@ -106,6 +71,5 @@ pub extern "C" fn oeq_block(
 ) -> i64
     ensures { λ r. ⌜ Returned (λ a. ofCount (blockAnswer a)) (blockOf (now (memory .entry)) (now (gains .entry)) (now (input .entry)) (now (output .entry))) r (now (memory .exit), now (output .exit)) ⌝ }
 {
-    let answer = block(memory, gains, input, output);
-    counted(block_number(answer), 0, block_value(answer))
+    count(block_parts(block(memory, gains, input, output)))
 }

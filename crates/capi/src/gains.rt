@@ -1,41 +1,30 @@
 // The gain commands.
+use crate::code::SignedParts;
 use crate::code::signed;
 use gain::Command;
 use gain::Gained;
 ghost use mathlib.Core.Path.{_≡_};
 ghost use lib.IntN.{pos};
-ghost use Rattle.answers.specs.Answer.{numberIn};
 ghost use Rattle.gain.specs.Answer.{answerOf};
 ghost use Rattle.gain.specs.Promise.{commandGain};
 ghost use Rattle.gain.specs.declared.Command.the-variants as command;
 ghost use Rattle.capi.specs.Encode.{encode};
-ghost use Rattle.capi.specs.Parts.{valueIn};
+ghost use Rattle.capi.specs.Parts.{Parts};
 
-fn gain_number(answer: Gained) -> u8
-    ensures { λ r. ⌜ r ≡ numberIn (answerOf answer) ⌝ }
+fn gain_parts(answer: Gained) -> SignedParts
+    ensures { λ r. ⌜ Parts (pos 0) (answerOf answer) (r .0) (r .1) (r .2) ⌝ }
 {
     match answer {
-        Gained::Gain(_) => 0,
-        Gained::NotHalfDecibels => 11,
-        Gained::NotFactor => 12,
-    }
-}
-
-fn gain_value(answer: Gained) -> i32
-    ensures { λ r. ⌜ r ≡ valueIn (pos 0) (answerOf answer) ⌝ }
-{
-    match answer {
-        Gained::Gain(g) => g,
-        Gained::NotHalfDecibels => 0,
-        Gained::NotFactor => 0,
+        Gained::Gain(g) => SignedParts(0, 0, g),
+        Gained::NotHalfDecibels => SignedParts(11, 0, 0),
+        Gained::NotFactor => SignedParts(12, 0, 0),
     }
 }
 
 fn gain_code(command: Command) -> i64
     ensures { λ r. ⌜ r ≡ encode (answerOf (commandGain command)) ⌝ }
 {
-    let answer = gain::gain(command);
-    signed(gain_number(answer), 0, gain_value(answer))
+    signed(gain_parts(gain::gain(command)))
 }
 
 #[no_mangle]

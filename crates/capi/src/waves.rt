@@ -1,5 +1,7 @@
 // The WAVE header and the sample codec.
-use crate::code::counted;
+use crate::code::CountParts;
+use crate::code::SignedParts;
+use crate::code::count;
 use crate::code::signed;
 use wave::Put;
 use wave::Reading;
@@ -7,17 +9,16 @@ use wave::Sample;
 use wave::Written;
 ghost use mathlib.Core.Path.{_≡_};
 ghost use lib.IntN.{pos};
-ghost use Rattle.answers.specs.Answer.{numberIn};
 ghost use Rattle.wave.specs.Header.{writeOf, writeAnswer};
 ghost use Rattle.wave.specs.Sample.{fromBytes, toBytes, sampleAnswer, putAnswer};
 ghost use Rattle.wave.specs.Walk.{readOf, readAnswer};
 ghost use Rattle.capi.specs.Answers.{ofCount, Returned};
 ghost use Rattle.capi.specs.Encode.{encode};
 ghost use Rattle.capi.specs.Found.{ofFound, foundAfter};
-ghost use Rattle.capi.specs.Parts.{valueIn, StartFits};
+ghost use Rattle.capi.specs.Parts.{Parts, StartFits};
 
-fn read_number(answer: Reading) -> u8
-    ensures { λ r. ⌜ r ≡ numberIn (readAnswer answer) ⌝ }
+fn read_parts(answer: Reading) -> CountParts
+    ensures { λ r. ⌜ Parts 0 (ofFound (readAnswer answer)) (r .0) (r .1) (r .2) ⌝ }
 {
     match answer {
         Reading::Accepted {
@@ -25,12 +26,12 @@ fn read_number(answer: Reading) -> u8
             format: _,
             length: _,
             start: _,
-        } => 0,
-        Reading::NotWave => 21,
-        Reading::NoFormat => 22,
-        Reading::WrongFormat => 23,
-        Reading::CutOff => 24,
-        Reading::PartSample => 25,
+        } => CountParts(0, 0, 4),
+        Reading::NotWave => CountParts(21, 0, 0),
+        Reading::NoFormat => CountParts(22, 0, 0),
+        Reading::WrongFormat => CountParts(23, 0, 0),
+        Reading::CutOff => CountParts(24, 0, 0),
+        Reading::PartSample => CountParts(25, 0, 0),
     }
 }
 
@@ -52,96 +53,63 @@ fn store(answer: Reading, found: &mut [u32; 4])
     }
 }
 
-fn write_number(answer: Written) -> u8
-    ensures { λ r. ⌜ r ≡ numberIn (writeAnswer answer) ⌝ }
+fn write_parts(answer: Written) -> CountParts
+    ensures { λ r. ⌜ Parts 0 (writeAnswer answer) (r .0) (r .1) (r .2) ⌝ }
 {
     match answer {
-        Written::Header(_) => 0,
-        Written::WrongBuffer => 27,
-        Written::WrongRate => 28,
-        Written::WrongLength => 26,
+        Written::Header(n) => CountParts(0, 0, n),
+        Written::WrongBuffer => CountParts(27, 0, 0),
+        Written::WrongRate => CountParts(28, 0, 0),
+        Written::WrongLength => CountParts(26, 0, 0),
     }
 }
 
-fn write_value(answer: Written) -> usize
-    ensures { λ r. ⌜ r ≡ valueIn 0 (writeAnswer answer) ⌝ }
+fn sample_parts(answer: Sample) -> SignedParts
+    ensures { λ r. ⌜ Parts (pos 0) (sampleAnswer answer) (r .0) (r .1) (r .2) ⌝ }
 {
     match answer {
-        Written::Header(n) => n,
-        Written::WrongBuffer => 0,
-        Written::WrongRate => 0,
-        Written::WrongLength => 0,
+        Sample::Is(z) => SignedParts(0, 0, z),
+        Sample::WrongLength => SignedParts(18, 0, 0),
     }
 }
 
-fn sample_number(answer: Sample) -> u8
-    ensures { λ r. ⌜ r ≡ numberIn (sampleAnswer answer) ⌝ }
+fn put_parts(answer: Put) -> CountParts
+    ensures { λ r. ⌜ Parts 0 (putAnswer answer) (r .0) (r .1) (r .2) ⌝ }
 {
     match answer {
-        Sample::Is(_) => 0,
-        Sample::WrongLength => 18,
-    }
-}
-
-fn sample_value(answer: Sample) -> i32
-    ensures { λ r. ⌜ r ≡ valueIn (pos 0) (sampleAnswer answer) ⌝ }
-{
-    match answer {
-        Sample::Is(z) => z,
-        Sample::WrongLength => 0,
-    }
-}
-
-fn put_number(answer: Put) -> u8
-    ensures { λ r. ⌜ r ≡ numberIn (putAnswer answer) ⌝ }
-{
-    match answer {
-        Put::Done(_) => 0,
-        Put::WrongLength => 18,
-        Put::OutOfRange => 19,
-    }
-}
-
-fn put_value(answer: Put) -> usize
-    ensures { λ r. ⌜ r ≡ valueIn 0 (putAnswer answer) ⌝ }
-{
-    match answer {
-        Put::Done(n) => n,
-        Put::WrongLength => 0,
-        Put::OutOfRange => 0,
+        Put::Done(n) => CountParts(0, 0, n),
+        Put::WrongLength => CountParts(18, 0, 0),
+        Put::OutOfRange => CountParts(19, 0, 0),
     }
 }
 
 #[no_mangle]
 pub extern "C" fn oeq_wave_read(front: &[u8], found: &mut [u32; 4]) -> i64
-    ensures { λ r. ⌜ r ≡ encode (ofFound (readOf (now (front .entry)))) ⌝ }
+    ensures { λ r. ⌜ r ≡ encode (ofCount (ofFound (readOf (now (front .entry))))) ⌝ }
     ensures { λ _. ⌜ now (found .exit) ≡ foundAfter (readOf (now (front .entry))) (now (found .entry)) ⌝ }
 {
     let answer = wave::read(front);
     store(answer, found);
-    counted(read_number(answer), 0, 4)
+    count(read_parts(answer))
 }
 
 #[no_mangle]
 pub extern "C" fn oeq_wave_write(buffer: &mut [u8], rate: u32, size: u32) -> i64
     ensures { λ r. ⌜ Returned (λ a. ofCount (writeAnswer a)) (writeOf (now (buffer .entry)) rate size) r (now (buffer .exit)) ⌝ }
 {
-    let answer = wave::write(buffer, rate, size);
-    counted(write_number(answer), 0, write_value(answer))
+    count(write_parts(wave::write(buffer, rate, size)))
 }
 
 #[no_mangle]
 pub extern "C" fn oeq_sample_from_bytes(bytes: &[u8]) -> i64
     ensures { λ r. ⌜ r ≡ encode (sampleAnswer (fromBytes (now (bytes .entry)))) ⌝ }
 {
-    let answer = wave::sample_from_bytes(bytes);
-    signed(sample_number(answer), 0, sample_value(answer))
+    signed(sample_parts(wave::sample_from_bytes(bytes)))
 }
 
 #[no_mangle]
 pub extern "C" fn oeq_sample_to_bytes(sample: i32, buffer: &mut [u8]) -> i64
     ensures { λ r. ⌜ Returned (λ a. ofCount (putAnswer a)) (toBytes sample (now (buffer .entry))) r (now (buffer .exit)) ⌝ }
 {
-    let answer = wave::sample_to_bytes(sample, buffer);
-    counted(put_number(answer), 0, put_value(answer))
+    count(put_parts(wave::sample_to_bytes(sample, buffer)))
 }

@@ -2,16 +2,18 @@
 use mathlib.Core.Path.{ap}
 use borrow.Author.Needs.{needs}
 use Rattle.gain.specs.Answer.{answerOf}
-use Rattle.capi.proofs.Encoding.{signed-is}
+use Rattle.capi.proofs.Encoding.{signed-fits, signed-is}
 use Rattle.capi.proofs.Returnable.{gain-returnable}
 use Rattle.capi.proofs.gains.gain_code.Statement.{statement}
 use Rattle.capi.proofs.gains.gain_code.Tie as tie
 
 returns : tie.Need-returns
 returns c =
-    let call = c .before .before .before in
-    signed-is (ap answerOf (call .gain .ensures)) (gain-returnable (call .before .args .command)) (c .before .gain-value .ensures) (c .before .gain-value .ok)
-    (c .before .before .gain-number .ensures) (c .signed .ensures) (c .signed .ok)
+    let call = c .before .before in
+    signed-is (ap answerOf (call .gain .ensures)) (gain-returnable (call .before .args .command)) (c .before .gain-parts .ensures) (c .signed .ensures) (c .signed .ok)
+
+signed-requires : tie.Need-signed-requires
+signed-requires c κs = signed-fits (ap answerOf (c .before .gain .ensures)) (gain-returnable (c .before .before .args .command)) (c .gain-parts .ensures)
 
 pub gain-code-spec : {M : Type 1} → statement M
-gain-code-spec = tie.close (tie.spec (λ c κs. search needs) (λ c κs. search needs) (λ c κs. search needs) (λ c κs. search needs) returns)
+gain-code-spec = tie.close (tie.spec (λ c κs. search needs) (λ c κs. search needs) signed-requires returns)
