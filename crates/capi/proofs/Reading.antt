@@ -2,17 +2,16 @@
 use mathlib.Core.Path.{_≡_, refl}
 use mathlib.Core.Bool.{Bool, true, false, cond, _&&_}
 use mathlib.Core.List.{List, [], _∷_}
-use Prim.Native.Nat.{ℕ, zero, suc, _%_, _≤_}
+use Prim.Native.Nat.{ℕ, zero, suc, _≤_}
 use native.Mathlib.Omega.{arith}
-use lib.Dec.{eqb, leb, lit<}
+use lib.Dec.{leb, lit<}
 use lib.ListN.{length, take, drop}
 use types.Run.{OneOf, miss}
 use denote.Enum.Declared.{tagOf}
 use Rattle.answers.specs.Answer.{Answer, accepted, refused}
 use Rattle.answers.specs.Unit.{frontLength}
-use Rattle.wave.specs.Bytes.{field, same}
-use Rattle.wave.specs.Names.{riff, wave, fmt, data′}
-use Rattle.wave.specs.Values.{blockSize, right}
+use Rattle.wave.specs.Bytes.{same}
+use Rattle.wave.specs.Names.{riff, wave}
 use Rattle.wave.specs.Walk.{Found, Seen, nothing, sound, Step, ends, on, first, values, fmtChunk, dataChunk, chunk, follow, walk, judge, readOf, readAnswer}
 use Rattle.wave.specs.declared.reader.Reading.{Reading}
 use Rattle.wave.specs.declared.reader.Reading.the-variants.{Accepted, NotWave, NoFormat, WrongFormat, CutOff, PartSample}

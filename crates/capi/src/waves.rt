@@ -20,7 +20,12 @@ fn read_number(answer: Reading) -> u8
     ensures { λ r. ⌜ r ≡ numberIn (readAnswer answer) ⌝ }
 {
     match answer {
-        Reading::Accepted { rate: _, format: _, length: _, start: _ } => 0,
+        Reading::Accepted {
+            rate: _,
+            format: _,
+            length: _,
+            start: _,
+        } => 0,
         Reading::NotWave => 21,
         Reading::NoFormat => 22,
         Reading::WrongFormat => 23,
@@ -39,8 +44,7 @@ fn store(answer: Reading, found: &mut [u32; 4])
         format,
         length,
         start,
-    } = answer
-    {
+    } = answer {
         found[0] = rate;
         found[1] = wave::bits(format);
         found[2] = length;

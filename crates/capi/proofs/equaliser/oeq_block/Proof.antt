@@ -20,8 +20,7 @@ returns c =
 counted-requires : tie.Need-counted-requires
 counted-requires c κs =
     let call = c .before .before .before .before in
-    let a = call .before .before .before .args in
-    (
+    let a = call .before .before .before .args in (
       omega arith,
       lent-fits blockAnswer {o = blockOf (now (a .memory)) (now (a .gains)) (now (a .input)) (now (a .output))} (call .block .ensures)
           (block-counted (now (a .memory)) (now (a .gains)) (now (a .input)) (now (a .output))) (c .block-value .ensures),

@@ -21,10 +21,11 @@ returns : tie.Need-returns
 returns c =
     let call = c .before .before .before .before in
     let s = call .before .before in
-    let front = now (s .args .front) in
-    (returned (c .counted .ensures ∙ ap (λ (n : ℕ). encodeParts n 0 (pos 4)) (c .before .read-number .ensures ∙ ap numberIn (call .read .ensures)) ∙
-    found-parts (readOf front) (read-returnable front)) (c .counted .ok),
-    c .before .before .store .ensures ∙ ap (λ (a : Answer Found). foundAfter a (now (s .args .found))) (call .read .ensures))
+    let front = now (s .args .front) in (
+      returned (c .counted .ensures ∙ ap (λ (n : ℕ). encodeParts n 0 (pos 4)) (c .before .read-number .ensures ∙ ap numberIn (call .read .ensures)) ∙
+          found-parts (readOf front) (read-returnable front)) (c .counted .ok),
+      c .before .before .store .ensures ∙ ap (λ (a : Answer Found). foundAfter a (now (s .args .found))) (call .read .ensures),
+    )
 
 pub oeq-wave-read-spec : {M : Type 1} → statement M
 oeq-wave-read-spec = tie.close (tie.spec (λ c κs. search needs) store-requires (λ c κs. search needs) (λ c κs. search needs) returns)
