@@ -53,12 +53,12 @@ module _ (M size : ℕ) (g : ℕ → ℤ) where
 pub record Ready (m : List ℤ) : Type 0 where
   pub at : ℕ
   pub lines : List ℤ
-  pub memory-is : m ≡ pos 8 ∷ pos at ∷ lines
-  pub region : Region published 8 (lineLength 8) at 1 lines
+  pub memory-is : m ≡ pos bands ∷ pos at ∷ lines
+  pub region : Region published bands (lineLength bands) at 1 lines
 
-pub prepared-ready : Ready (prepared 8)
+pub prepared-ready : Ready (prepared bands)
 prepared-ready =
-    let s = prepared-holds 8 (λ _. pos 0) (omega arith) (omega arith) in
+    let s = prepared-holds bands (λ _. pos 0) (omega arith) (omega arith) in
     record { at = s .at; lines = s .lines; memory-is = s .memory-is; region = s .region }
 
 -- what a block of the program leaves
