@@ -14,7 +14,7 @@ use Rattle.answers.specs.Answer.{accepted}
 use Rattle.answers.specs.Checks.{allHold, Outcome, Done}
 use Rattle.answers.specs.Judging.{allRefuse}
 use Rattle.answers.specs.Range.{within}
-use Rattle.answers.specs.Unit.{leastSample, mostSample, frontLength}
+use Rattle.answers.specs.Unit.{leastSample, mostSample, frontLength, largestData}
 use Rattle.answers.proofs.Laws.{and-left, and-right, accepted-holds, all-accept}
 use Rattle.wave.specs.Bytes.{number, little, field, same}
 use Rattle.wave.specs.Sample.{numberOf, codeOf, sampleIn, fromBytes, toBytes}
@@ -96,7 +96,7 @@ bytes-sample-bytes s buffer three bytes room = (
 
 -- an accepted call of the writer has a known rate, whole samples and the header
 accepted-means : (buffer after : List ℕ) (n rate size : ℕ) → Done (writeOf buffer rate size) (written.Header n) after →
-    (knownRate rate ≡ true) × (size % 3 ≡ 0) × (size ≤ 4294967259) × (after ≡ header rate size)
+    (knownRate rate ≡ true) × (size % 3 ≡ 0) × (size ≤ largestData) × (after ≡ header rate size)
 unfolding writeOf allRefuse allHold
 accepted-means buffer after n rate size d =
     let cs = writeChecks buffer rate size in
@@ -105,7 +105,7 @@ accepted-means buffer after n rate size d =
     let sized = and-right (knownRate rate) _ rest in (
       and-left (knownRate rate) _ rest,
       eqb-true (size % 3) 0 (and-left (eqb (size % 3) 0) _ sized),
-      leb-true size 4294967259 (and-left (leb size 4294967259) true (and-right (eqb (size % 3) 0) _ sized)),
+      leb-true size largestData (and-left (leb size largestData) true (and-right (eqb (size % 3) 0) _ sized)),
       d .lent-is ∙ ap (λ (o : Outcome Written (List ℕ)). o .lent) (all-accept buffer (header rate size) (written.Header 44) cs held),
     )
 

@@ -5,6 +5,7 @@ use lib.ListN.{length}
 use lib.Dec.{eqb, leb}
 use Rattle.answers.specs.Answer.{Answer, accepted, refused}
 use Rattle.answers.specs.Checks.{Check, check, Outcome, decide}
+use Rattle.answers.specs.Unit.{largestData}
 use Rattle.wave.specs.Bytes.{little}
 use Rattle.wave.specs.Names.{riff, wave, fmt, data′}
 use Rattle.wave.specs.Values.{knownRate}
@@ -30,7 +31,7 @@ writeChecks buffer rate size =
     check (eqb (length buffer) 44) WrongBuffer ∷
     check (knownRate rate) WrongRate ∷
     check (eqb (size % 3) 0) WrongLength ∷
-    check (leb size 4294967259) WrongLength ∷ []
+    check (leb size largestData) WrongLength ∷ []
 
 -- rule 6.8, header writer: `write`, with the buffer afterwards
 unfoldable pub writeOf : List ℕ → ℕ → ℕ → Outcome Written (List ℕ)

@@ -4,11 +4,13 @@ use crate::put::put_chunk;
 use crate::put::put_four;
 use crate::put::put_name;
 use crate::put::put_two;
+use answers::unit::LARGEST_DATA;
 ghost use mathlib.Core.Path.{_≡_};
 ghost use Prim.Native.Nat.{_+_, _≤_};
 ghost use lib.ListN.{length};
 ghost use lib.Seq.{sets};
 ghost use Rattle.answers.specs.Checks.{Done};
+ghost use Rattle.answers.specs.Unit.{largestData};
 ghost use Rattle.wave.specs.Header.{header, fmtContents, writeOf};
 
 // What `write` answers.
@@ -37,7 +39,7 @@ fn put_format(buffer: &mut [u8], at: usize, rate: u32)
 }
 
 fn put_header(buffer: &mut [u8], rate: u32, size: u32)
-    requires { ⌜ (length (now buffer) ≡ 44) × (rate ≤ 48000) × (size ≤ 4294967259) ⌝ }
+    requires { ⌜ (length (now buffer) ≡ 44) × (rate ≤ 48000) × (size ≤ largestData) ⌝ }
     ensures { λ _. ⌜ now (buffer .exit) ≡ header rate size ⌝ }
 {
     put_chunk(buffer, 0, b"RIFF", size + 36);
@@ -60,7 +62,7 @@ pub fn write(buffer: &mut [u8], rate: u32, size: u32) -> Written
     if size % 3 != 0 {
         return Written::WrongLength;
     }
-    if 4294967259 < size {
+    if LARGEST_DATA < size {
         return Written::WrongLength;
     }
     put_header(buffer, rate, size);
