@@ -60,12 +60,12 @@ def with_place(at, value):
     return memory
 
 
-COUNTS = [-(2**31), *range(-2, 12), 2**31 - 1]
+COUNTS = [-(2**31), -2, -1, 0, 1, 2, 3, 10, 11, 2**31 - 1]
 
 
 def show_numbers():
     """Refusals 1 to 8 at their edges, and an empty block."""
-    for M in COUNTS:
+    for M in [*COUNTS, *range(4, 10)]:
         show_length(M)
     for M in COUNTS:
         show_prepare(M, 20)

@@ -5,6 +5,8 @@ use mathlib.Core.Logic.{_⊎_, inl, inr}
 use mathlib.Core.Bool.{Bool, true, false, cond, _&&_, false≢true}
 use mathlib.Core.List.{List, [], _∷_}
 use Prim.Native.Nat.{ℕ, _<_}
+use native.Mathlib.Omega.{arith}
+use borrow.Author.Tests.{ltb-true}
 use lib.Dec.{ltb, lit<}
 use Rattle.answers.specs.Answer.{Answer, accepted, numberIn}
 use Rattle.answers.specs.Checks.{Check, allHold, choose, Outcome, decide, Done}
@@ -121,16 +123,20 @@ first-numbered answerOf e (later {case = x} {cs = cs} d h) =
     first-numbered answerOf (and-right (ltb 0 (numberIn (answerOf x))) (allRefuse answerOf cs) e) h
 
 module _ {R A : Type 0} (answerOf : R → Answer A) (cs : List (Check R)) (result : R) where
-  -- an accepted answer: no check failed
-  pub chosen-holds : (a : A) → allRefuse answerOf cs ≡ true → answerOf (choose cs result) ≡ accepted a → allHold cs ≡ true
-  chosen-holds a e d = by (all-or-first cs)
+  -- an answer without a number: no check failed
+  pub unnumbered-holds : allRefuse answerOf cs ≡ true → numberIn (answerOf (choose cs result)) ≡ 0 → allHold cs ≡ true
+  unnumbered-holds e z = by (all-or-first cs)
     where
       by : (allHold cs ≡ true) ⊎ ((r : R) × First cs r) → allHold cs ≡ true
       by (inl h) = h
       by (inr h) =
-          let f : ltb 0 (numberIn (answerOf (h .0))) ≡ true = first-numbered answerOf e (h .1) in
-          let g : answerOf (h .0) ≡ accepted a = sym (ap answerOf (chosen-first result (h .1))) ∙ d in
-          absurd (false≢true (sym (ap (λ (x : Answer A). ltb 0 (numberIn x)) g) ∙ f))
+          let f : 0 < numberIn (answerOf (h .0)) = ltb-true 0 (numberIn (answerOf (h .0))) (first-numbered answerOf e (h .1)) in
+          let g : numberIn (answerOf (h .0)) ≡ 0 = sym (ap (λ (r : R). numberIn (answerOf r)) (chosen-first result (h .1))) ∙ z in
+          absurd (omega arith)
+
+  -- an accepted one has none
+  pub chosen-holds : (a : A) → allRefuse answerOf cs ≡ true → answerOf (choose cs result) ≡ accepted a → allHold cs ≡ true
+  chosen-holds a e d = unnumbered-holds e (ap numberIn d)
 
   -- a refusal: some check failed
   pub chosen-fails : (numberIn (answerOf (choose cs result)) ≡ 0 → ⊥) → numberIn (answerOf result) ≡ 0 → allHold cs ≡ false

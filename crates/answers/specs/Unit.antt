@@ -6,6 +6,7 @@ use lib.IntN.{ℤ, pos, negsuc}
 abbrev pub fewestBands : ℤ
 fewestBands = pos 2
 
+-- rule 1.3: the largest number of bands
 abbrev pub mostBands : ℤ
 mostBands = pos 10
 
@@ -13,6 +14,7 @@ mostBands = pos 10
 abbrev pub leastSample : ℤ
 leastSample = negsuc 8388607
 
+-- rule 1.1: the other end
 abbrev pub mostSample : ℤ
 mostSample = pos 8388607
 
@@ -24,6 +26,7 @@ largestSample = 8388608
 abbrev pub leastPlace : ℤ
 leastPlace = negsuc 2147483647
 
+-- rule 5.1: the other end
 abbrev pub mostPlace : ℤ
 mostPlace = pos 2147483647
 
@@ -43,6 +46,6 @@ blockLimit = 4096
 abbrev pub frontLength : ℕ
 frontLength = 4096
 
--- the most bytes of samples that a header states: its RIFF length, 36 more, stays below 2^32
+-- rule 6.8, header writer: the most bytes of samples that a header states: its RIFF length, 36 more, stays below 2^32
 abbrev pub largestData : ℕ
 largestData = 4294967259

@@ -11,7 +11,7 @@ use Rattle.gain.specs.Answer.{answerOf}
 use Rattle.gain.specs.Promise.{commandGain}
 use Rattle.gain.specs.declared.Command.the-variants.{Decibels}
 
--- the output under gains, lowest first; a line; a band: each of a tree of M bands, fed with samples and then zeros; and a command
+-- rule 14.1: the output under gains, lowest first; a line; a band: each of a tree of M bands, fed with samples and then zeros; and a command
 -- of decibels, by the bits of its f32
 pub data Reading : Type 0 where
   output-of : (M : ℕ) (gains samples : List ℤ) → Reading
@@ -19,16 +19,17 @@ pub data Reading : Type 0 where
   band-of : (M m : ℕ) (samples : List ℤ) → Reading
   decibels-of : (bits : ℕ) → Reading
 
--- what the bench shows: a number, or a refusal
+-- rule 14.1: what the bench shows: a number, or a refusal
 pub data Shown : Type 0 where
   number : ℤ → Shown
   refusal : ℕ → Shown
 
+-- rule 14.1: an answer as the bench shows it
 abbrev pub shown : Answer ℤ → Shown
 shown (accepted g) = number g
 shown (refused n place) = refusal n
 
--- what the definitions give at n; a gain is the same at every n
+-- rule 14.1: what the definitions give at n; a gain is the same at every n
 unfoldable pub read : Reading → ℕ → Shown
 read (output-of M gains samples) n = number (output published M (λ _. gainOf gains) (signalOf samples) n)
 read (line-of M k samples) n = number (line published M (signalOf samples) k n)

@@ -3,10 +3,11 @@ use mathlib.Core.List.{List, [], _∷_}
 use lib.IntN.{ℤ, pos, negsuc}
 use Rattle.bench_readings.specs.Reading.{Row, row, output-of, line-of, band-of, decibels-of}
 
--- 100,000 then zeros
+-- rule 14.2: 100,000 then zeros
 abbrev hundred-thousand : List ℤ
 hundred-thousand = pos 100000 ∷ []
 
+-- rule 14.2: the cases marked P
 abbrev pub table : List Row
 table =
     -- two bands, sample 100,000, the low band alone

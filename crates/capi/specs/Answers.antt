@@ -6,12 +6,12 @@ use Rattle.answers.specs.Answer.{Answer, accepted, refused}
 use Rattle.answers.specs.Checks.{Outcome}
 use Rattle.capi.specs.Encode.{encode}
 
--- a length, a delay, a number of samples or of bytes
+-- rule 12.2: a length, a delay, a number of samples or of bytes
 abbrev pub ofCount : Answer ℕ → Answer ℤ
 ofCount (accepted n) = accepted (pos n)
 ofCount (refused number place) = refused number place
 
--- a call's answer is returned encoded, and the places lent to it are as the call leaves them
+-- rule 12.8: a call's answer is returned encoded, and the places lent to it are as the call leaves them
 pub record Returned {R L : Type 0} (answerOf : R → Answer ℤ) (o : Outcome R L) (code : ℤ) (lent : L) : Type 0 where
   pub code-is : code ≡ encode (answerOf (o .result))
   pub lent-is : lent ≡ o .lent

@@ -22,7 +22,6 @@ use Rattle.gain.proofs.Halves.{accepted-half}
 use Rattle.gain.proofs.Table.{entry-small}
 use Rattle.eqfile.specs.declared.half.Place.{Place}
 use Rattle.eqfile.specs.declared.half.Place.the-variants as place
-use Rattle.eqfile.specs.declared.half.Argument.{Argument}
 use Rattle.eqfile.specs.declared.half.Argument.the-variants.{Gain, Refused}
 use Rattle.eqfile.specs.Argument.{placeOf, gainFor, argumentOf}
 use Rattle.eqfile.proofs.ArgumentText.{Inside, place-inside}

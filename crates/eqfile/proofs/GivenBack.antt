@@ -26,7 +26,7 @@ use Rattle.wave.specs.declared.format.Format.{Format}
 use Rattle.wave.specs.declared.format.Format.the-variants.{Bits24}
 use Rattle.wave.proofs.RoundTrips.{Bytes, same-bytes}
 use Rattle.wave.proofs.Singles.{block-there-and-back}
-use Rattle.eqfile.specs.Arguments.{argumentsOf}
+use Rattle.eqfile.specs.Arguments.{bands, argumentsOf}
 use Rattle.eqfile.specs.Data.{samplesFrom}
 use Rattle.eqfile.specs.Turn.{late, turnOf}
 use Rattle.eqfile.specs.Program.{Piece, ByPlan, handed, programWrites}
@@ -40,9 +40,9 @@ use Rattle.eqfile.proofs.Program.{program-writes, program-length}
 
 -- outputs 1,143 and on of samples in range are the samples
 outputs-back : (xs : List ℤ) → allInRange xs ≡ true →
-    from late (length xs) (output published 8 (λ _. gainOf (replicate 8 (pos unity))) (signalOf xs)) ≡ xs
+    from late (length xs) (output published bands (λ _. gainOf (replicate bands (pos unity))) (signalOf xs)) ≡ xs
 outputs-back xs e =
-    let f = output published 8 (λ _. gainOf (replicate 8 (pos unity))) (signalOf xs) in
+    let f = output published bands (λ _. gainOf (replicate bands (pos unity))) (signalOf xs) in
     let long = from-long late (length xs) f in
     ext-getD (pos 0) (from late (length xs) f) xs long
     (λ n h.
@@ -50,7 +50,7 @@ outputs-back xs e =
     let z = getD xs n (pos 0) in
     let r = within-parts leastSample mostSample z (all-at leastSample mostSample xs e n i) in
     from-at late (length xs) f n i ∙ ap f (add-comm late n) ∙
-    unity-output (replicate 8 (pos unity)) (signalOf xs) all-unity n (le-by (var leastSample) (var z) (r .0)) (le-by (var z) (var mostSample) (r .1)))
+    unity-output (replicate bands (pos unity)) (signalOf xs) all-unity n (le-by (var leastSample) (var z) (r .0)) (le-by (var z) (var mostSample) (r .1)))
 
 -- ---- bytes
 
@@ -90,31 +90,31 @@ bytes-handed format samples at read (u ∷ us) h =
 
 -- ---- the theorems
 
-outputs-in-range : (g : ℕ → ℕ → ℤ) (x : Signal) (n k : ℕ) → allInRange (from n k (output published 8 g x)) ≡ true
+outputs-in-range : (g : ℕ → ℕ → ℤ) (x : Signal) (n k : ℕ) → allInRange (from n k (output published bands g x)) ≡ true
 unfolding from output
 outputs-in-range g x n zero = none-within leastSample mostSample
-outputs-in-range g x n (suc k) = cons-all leastSample mostSample (output published 8 g x n) (from (n + 1) k (output published 8 g x)) (out-in-range (gainSum published 8 g (line published 8 x) n)) (outputs-in-range g x (n + 1) k)
+outputs-in-range g x n (suc k) = cons-all leastSample mostSample (output published bands g x n) (from (n + 1) k (output published bands g x)) (out-in-range (gainSum published bands g (line published bands x) n)) (outputs-in-range g x (n + 1) k)
 
 -- what is written is read back the same; the header before it is read back whatever follows, `header-read-back`
 pub outputs-read-back : (texts : List (List ℕ)) (gains : List ℤ) → argumentsOf texts ≡ accepted gains → (format : Format) (samples : ℕ) (us : List Piece) →
     ByPlan format samples 0 0 us →
-    samplesFrom samples Bits24 (programWrites gains format samples 0 0 (prepared 8) us) ≡
-    from late samples (output published 8 (λ _. gainOf gains) (signalOf (samplesFrom samples format (handed us))))
+    samplesFrom samples Bits24 (programWrites gains format samples 0 0 (prepared bands) us) ≡
+    from late samples (output published bands (λ _. gainOf gains) (signalOf (samplesFrom samples format (handed us))))
 outputs-read-back texts gains taken format samples us turns =
     let x = signalOf (samplesFrom samples format (handed us)) in
-    let os = from late samples (output published 8 (λ _. gainOf gains) x) in
-    let w = programWrites gains format samples 0 0 (prepared 8) us in
+    let os = from late samples (output published bands (λ _. gainOf gains) x) in
+    let w = programWrites gains format samples 0 0 (prepared bands) us in
     all-there samples w (program-length texts gains taken format samples us turns) ∙
-    ap₂ (λ (n : ℕ) (s : List ℕ). samplesOf n Bits24 s) (sym (from-long late samples (output published 8 (λ _. gainOf gains) x))) (program-writes texts gains taken format samples us turns) ∙
+    ap₂ (λ (n : ℕ) (s : List ℕ). samplesOf n Bits24 s) (sym (from-long late samples (output published bands (λ _. gainOf gains) x))) (program-writes texts gains taken format samples us turns) ∙
     block-there-and-back os (outputs-in-range (λ _. gainOf gains) x late samples)
 
 pub noughts-write-back : (samples : ℕ) (us : List Piece) → ByPlan Bits24 samples 0 0 us → length (handed us) ≡ 3 * samples →
-    programWrites (replicate 8 (pos unity)) Bits24 samples 0 0 (prepared 8) us ≡ handed us
+    programWrites (replicate bands (pos unity)) Bits24 samples 0 0 (prepared bands) us ≡ handed us
 noughts-write-back samples us turns all =
     let xs = samplesFrom samples Bits24 (handed us) in
     let bytes = bytes-handed Bits24 samples 0 0 us turns in
-    program-writes (replicate 8 (48 ∷ [])) (replicate 8 (pos unity)) noughts-are-unity Bits24 samples us turns ∙
+    program-writes (replicate bands (48 ∷ [])) (replicate bands (pos unity)) noughts-are-unity Bits24 samples us turns ∙
     ap bytesOf
-    (ap (λ (k : ℕ). from late k (output published 8 (λ _. gainOf (replicate 8 (pos unity))) (signalOf xs))) (sym (length-from samples Bits24 (handed us))) ∙
+    (ap (λ (k : ℕ). from late k (output published bands (λ _. gainOf (replicate bands (pos unity))) (signalOf xs))) (sym (length-from samples Bits24 (handed us))) ∙
     outputs-back xs (from-within samples Bits24 (handed us) bytes) ∙ all-there samples (handed us) all) ∙
     bytes-back samples (handed us) bytes all

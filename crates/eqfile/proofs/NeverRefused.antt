@@ -10,7 +10,7 @@ use lib.Seq.{take-all}
 use lib.IntN.{ℤ, pos}
 use Rattle.answers.specs.Checks.{Outcome, decide}
 use Rattle.answers.specs.Range.{allWithin}
-use Rattle.answers.specs.Unit.{leastSample, mostSample, blockLimit, largestGain}
+use Rattle.answers.specs.Unit.{blockLimit, largestGain}
 use Rattle.tree.specs.Prototype.{published}
 use Rattle.tree.specs.Signal.{gainOf}
 use Rattle.octave.specs.declared.block.Blocked.{Blocked}
@@ -23,7 +23,7 @@ use Rattle.octave.proofs.Memories.{accepts-is}
 use Rattle.octave.proofs.Running.{next-inside, region-moved}
 use Rattle.octave.proofs.Samples.{step-length}
 use Rattle.octave.proofs.Calls.{prepared-holds}
-use Rattle.wave.specs.Samples.{bytesOf, blockTo}
+use Rattle.wave.specs.Samples.{bytesOf}
 use Rattle.wave.specs.declared.samples.Stored.{Stored}
 use Rattle.wave.proofs.Storing.{length-bytes}
 use Rattle.wave.proofs.Codec.{to-all}
@@ -53,12 +53,12 @@ module _ (M size : ℕ) (g : ℕ → ℤ) where
 pub record Ready (m : List ℤ) : Type 0 where
   pub at : ℕ
   pub lines : List ℤ
-  pub memory-is : m ≡ pos 8 ∷ pos at ∷ lines
-  pub region : Region published 8 (lineLength 8) at 1 lines
+  pub memory-is : m ≡ pos bands ∷ pos at ∷ lines
+  pub region : Region published bands (lineLength bands) at 1 lines
 
-pub prepared-ready : Ready (prepared 8)
+pub prepared-ready : Ready (prepared bands)
 prepared-ready =
-    let s = prepared-holds 8 (λ _. pos 0) (omega arith) (omega arith) in
+    let s = prepared-holds bands (λ _. pos 0) (omega arith) (omega arith) in
     record { at = s .at; lines = s .lines; memory-is = s .memory-is; region = s .region }
 
 -- what a block of the program leaves

@@ -12,7 +12,7 @@ use lib.Dec.{ltb}
 use lib.ListN.{length, take, drop, length-drop}
 use lib.Seq.{take-all}
 use lib.IntN.{ℤ}
-use Rattle.answers.specs.Checks.{Outcome, Done, decide}
+use Rattle.answers.specs.Checks.{Outcome, Done}
 use Rattle.answers.specs.Judging.{Each}
 use Rattle.answers.proofs.Laws.{every}
 use Rattle.octave.specs.Block.{blockOf}
@@ -25,34 +25,36 @@ use Rattle.wave.proofs.samples.Stored as stored
 use Rattle.eqfile.specs.Data.{samplesFrom}
 use Rattle.eqfile.specs.Equalise.{countOf, storedOf, equaliseOf}
 
-module _ (memory gains : List ℤ) (format : Format) (bytes : List ℕ) (input output : List ℤ) (skipped : ℕ) (stored : List ℕ)
-    (samples m o : List ℤ) (a : Blocked) (s : samples ≡ samplesFrom (length input) format bytes) (b : Done (blockOf memory gains samples output) a (m, o)) where
-  lent-is : (m, o) ≡ blockOf memory gains (samplesFrom (length input) format bytes) output .lent
-  lent-is = b .lent-is ∙ ap (λ (x : List ℤ). blockOf memory gains x output .lent) s
+-- ---- the bytes stored
 
-  block-stored : (n : ℕ) (t : List ℕ) → (n, t) ≡ storedOf o skipped stored →
-      Done (equaliseOf memory gains format bytes input output skipped stored) n (record { memory = m; input = samples; output = o; stored = t })
-  unfolding equaliseOf
-  block-stored n t e =
-      let p = e ∙ ap (λ (x : List ℤ × List ℤ). storedOf (x .1) skipped stored) lent-is in
-      record { result-is = λ i. p i .0; lent-is = λ i. record { memory = lent-is i .0; input = s i; output = lent-is i .1; stored = p i .1 } }
-
-  pub nothing-stored : length o < skipped →
-      Done (equaliseOf memory gains format bytes input output skipped stored) 0 (record { memory = m; input = samples; output = o; stored = stored })
-  nothing-stored h = block-stored 0 stored (rw (lt-ltb (length o) skipped h))
+module _ (o : List ℤ) (skipped : ℕ) (stored : List ℕ) where
+  pub nothing-stored : length o < skipped → (0, stored) ≡ storedOf o skipped stored
+  nothing-stored h = rw (lt-ltb (length o) skipped h)
 
   pub outputs-stored : (r : Stored) (n : ℕ) (t : List ℕ) → skipped ≤ length o → Done (blockTo (take (length o - skipped) (drop skipped o)) stored) r t → countOf r ≡ n →
-      Done (equaliseOf memory gains format bytes input output skipped stored) n (record { memory = m; input = samples; output = o; stored = t })
+      (n, t) ≡ storedOf o skipped stored
   outputs-stored r n t h d e =
       let part : take (length o - skipped) (drop skipped o) ≡ drop skipped o = take-all (length o - skipped) (drop skipped o) (simp length-drop (omega arith)) in
       let q : Done (blockTo (drop skipped o) stored) r t = rw part at d in
-      block-stored n t (rw (le-ltb (length o) skipped h) (λ i. ((sym e ∙ ap countOf (q .result-is)) i, q .lent-is i)))
+      rw (le-ltb (length o) skipped h) (λ i. ((sym e ∙ ap countOf (q .result-is)) i, q .lent-is i))
 
 -- the codec's refusals store nothing
 pub none-stored : (r : Stored) → OneOf (1 ∷ 2 ∷ []) (tagOf stored.the-type r) → countOf r ≡ 0
 none-stored (Bytes n) t = absurd (⊎-elim (λ (z : _≡_ {A = ℕ} 0 1). omega arith) (λ (z : _≡_ {A = ℕ} 0 2). omega arith) t)
 none-stored WrongLength t = refl
 none-stored OutOfRange t = refl
+
+-- ---- the block
+
+-- the samples, then the block call, then its outputs stored
+pub equalised : (memory gains : List ℤ) (format : Format) (bytes : List ℕ) (input output : List ℤ) (skipped : ℕ) (stored : List ℕ) (samples m o : List ℤ) (a : Blocked) (n : ℕ)
+    (t : List ℕ) → samples ≡ samplesFrom (length input) format bytes → Done (blockOf memory gains samples output) a (m, o) → (n, t) ≡ storedOf o skipped stored →
+    Done (equaliseOf memory gains format bytes input output skipped stored) n (record { memory = m; input = samples; output = o; stored = t })
+unfolding equaliseOf
+equalised memory gains format bytes input output skipped stored samples m o a n t s b e =
+    let lent-is = b .lent-is ∙ ap (λ (x : List ℤ). blockOf memory gains x output .lent) s in
+    let p = e ∙ ap (λ (x : List ℤ × List ℤ). storedOf (x .1) skipped stored) lent-is in
+    record { result-is = λ i. p i .0; lent-is = λ i. record { memory = lent-is i .0; input = s i; output = lent-is i .1; stored = p i .1 } }
 
 -- what is stored is within the buffer
 stored-within : (samples : List ℤ) (stored : List ℕ) → countOf (blockTo samples stored .result) ≤ length stored

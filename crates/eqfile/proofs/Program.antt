@@ -20,7 +20,7 @@ use Rattle.wave.specs.Samples.{bytesOf}
 use Rattle.wave.specs.Values.{sizeOf}
 use Rattle.wave.specs.declared.format.Format.{Format}
 use Rattle.wave.proofs.Storing.{length-bytes, bytes-append}
-use Rattle.eqfile.specs.Arguments.{argumentsOf}
+use Rattle.eqfile.specs.Arguments.{bands, argumentsOf}
 use Rattle.eqfile.specs.Data.{samplesFrom}
 use Rattle.eqfile.specs.Turn.{late, turnOf}
 use Rattle.eqfile.specs.Equalise.{equaliseOf}
@@ -98,31 +98,31 @@ same-gains gains format (u ∷ us) = (refl, same-gains gains format us)
 module _ (texts : List (List ℕ)) (gains : List ℤ) (taken : argumentsOf texts ≡ accepted gains) (format : Format) (samples : ℕ) (us : List Piece)
     (turns : ByPlan format samples 0 0 us) where
   -- no block call of a run is refused
-  pub turns-accepted : AllAccepted (prepared 8) (calls gains format us)
-  turns-accepted = all-accepted gains (arguments-allowed texts gains taken) format samples 0 0 (prepared 8) us prepared-ready turns
+  pub turns-accepted : AllAccepted (prepared bands) (calls gains format us)
+  turns-accepted = all-accepted gains (arguments-allowed texts gains taken) format samples 0 0 (prepared bands) us prepared-ready turns
 
   -- what is written after the header: sample n is output n + 1,143 for the samples of the bytes read, whatever the pieces they were read in
-  pub program-writes : programWrites gains format samples 0 0 (prepared 8) us ≡
-      bytesOf (from late samples (output published 8 (λ _. gainOf gains) (signalOf (samplesFrom samples format (handed us)))))
+  pub program-writes : programWrites gains format samples 0 0 (prepared bands) us ≡
+      bytesOf (from late samples (output published bands (λ _. gainOf gains) (signalOf (samplesFrom samples format (handed us)))))
   program-writes =
       let xs = samplesFrom samples format (handed us) in
-      let f = output published 8 (λ _. gainOf gains) (signalOf xs) in
-      all-written gains (arguments-allowed texts gains taken) format samples 0 0 (prepared 8) us prepared-ready turns ∙
+      let f = output published bands (λ _. gainOf gains) (signalOf xs) in
+      all-written gains (arguments-allowed texts gains taken) format samples 0 0 (prepared bands) us prepared-ready turns ∙
       ap bytesOf
       (written-are gains xs (calls gains format us) turns-accepted (same-gains gains format us) (calls-join gains format samples us turns) ∙
       ap (λ (n : ℕ). from late n f) (length-from samples format (handed us)))
 
   -- .. which is as long as the header says
-  pub program-length : length (programWrites gains format samples 0 0 (prepared 8) us) ≡ 3 * samples
+  pub program-length : length (programWrites gains format samples 0 0 (prepared bands) us) ≡ 3 * samples
   program-length =
-      let f = output published 8 (λ _. gainOf gains) (signalOf (samplesFrom samples format (handed us))) in
+      let f = output published bands (λ _. gainOf gains) (signalOf (samplesFrom samples format (handed us))) in
       ap length program-writes ∙ length-bytes (from late samples f) ∙ ap (λ (n : ℕ). 3 * n) (from-long late samples f)
 
 -- the same bytes in other pieces: the same bytes are written
 pub pieces-do-not-matter : (texts : List (List ℕ)) (gains : List ℤ) → argumentsOf texts ≡ accepted gains → (format : Format) (samples : ℕ) (us vs : List Piece) →
     ByPlan format samples 0 0 us → ByPlan format samples 0 0 vs → handed us ≡ handed vs →
-    programWrites gains format samples 0 0 (prepared 8) us ≡ programWrites gains format samples 0 0 (prepared 8) vs
+    programWrites gains format samples 0 0 (prepared bands) us ≡ programWrites gains format samples 0 0 (prepared bands) vs
 pieces-do-not-matter texts gains taken format samples us vs t u e =
     program-writes texts gains taken format samples us t ∙
-    ap (λ (s : List ℕ). bytesOf (from late samples (output published 8 (λ _. gainOf gains) (signalOf (samplesFrom samples format s))))) e ∙
+    ap (λ (s : List ℕ). bytesOf (from late samples (output published bands (λ _. gainOf gains) (signalOf (samplesFrom samples format s))))) e ∙
     sym (program-writes texts gains taken format samples vs u)

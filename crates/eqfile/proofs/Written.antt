@@ -26,7 +26,7 @@ use Rattle.answers.specs.Unit.{leastSample, mostSample, unity}
 use Rattle.gain.specs.Table.{entry, gains}
 use Rattle.answers.specs.Answer.{accepted}
 use Rattle.eqfile.specs.Argument.{placeOf, argumentOf}
-use Rattle.eqfile.specs.Arguments.{eachGain, argumentsOf}
+use Rattle.eqfile.specs.Arguments.{bands, eachGain, argumentsOf}
 use Rattle.eqfile.specs.Turn.{late}
 
 -- every call has the same gains
@@ -63,10 +63,10 @@ from-long n zero f = refl
 from-long n (suc k) f = ap suc (from-long (n + 1) k f)
 
 -- gains of 4,096: output n + 1,143 is sample n
-pub unity-output : (gains : List ℤ) (x : Signal) → ((m : ℕ) → 1 ≤ m → m ≤ 8 → gainOf gains m ≡ pos unity) → (n : ℕ) →
-    leastSample ≤ℤ x n → x n ≤ℤ mostSample → output published 8 (λ _. gainOf gains) x (n + late) ≡ x n
+pub unity-output : (gains : List ℤ) (x : Signal) → ((m : ℕ) → 1 ≤ m → m ≤ bands → gainOf gains m ≡ pos unity) → (n : ℕ) →
+    leastSample ≤ℤ x n → x n ≤ℤ mostSample → output published bands (λ _. gainOf gains) x (n + late) ≡ x n
 unity-output gains x each n lo hi =
-    equal-gains published 8 (pos unity) (λ _. gainOf gains) x (n + late) (omega arith) each ∙
+    equal-gains published bands (pos unity) (λ _. gainOf gains) x (n + late) (omega arith) each ∙
     ap (λ (z : ℤ). limit leastSample mostSample (nearest unity (pos unity *ℤ z))) delayed ∙
     ap (limit leastSample mostSample) (nearest-exact unity (omega arith) (x n)) ∙ limit-id leastSample mostSample (x n) lo hi
   where
@@ -75,46 +75,46 @@ unity-output gains x each n lo hi =
 
 -- ---- the theorem
 
-module _ (gains xs : List ℤ) (cs : List Call) (all : AllAccepted (prepared 8) cs) (same : SameGains gains cs) (fed : joined cs ≡ followed xs) where
+module _ (gains xs : List ℤ) (cs : List Call) (all : AllAccepted (prepared bands) cs) (same : SameGains gains cs) (fed : joined cs ≡ followed xs) where
   long : length (joined cs) ≡ length xs + late
   long = ap length fed ∙ length-append xs (replicate late (pos 0)) ∙ ap (λ (k : ℕ). length xs + k) (length-replicate late (pos 0))
 
   -- sample n written is output n + 1,143 for the samples read
-  pub written-is : (n : ℕ) → n < length xs → getD (drop late (played (prepared 8) cs .output)) n (pos 0) ≡ output published 8 (λ _. gainOf gains) (signalOf xs) (n + late)
+  pub written-is : (n : ℕ) → n < length xs → getD (drop late (played (prepared bands) cs .output)) n (pos 0) ≡ output published bands (λ _. gainOf gains) (signalOf xs) (n + late)
   written-is n h =
       let inside : late + n < length (joined cs) = omega (arith, long) in
-      getD-drop late (played (prepared 8) cs .output) n (pos 0) ∙ output-at 8 (omega arith) (omega arith) cs all (late + n) inside ∙
-      output-ext 8 (carried cs) (λ _. gainOf gains) (signalOf (joined cs)) (late + n) (λ m. carried-same gains cs same (late + n) m inside) ∙
-      ap (λ (x : Signal). output published 8 (λ _. gainOf gains) x (late + n)) (fun-ext (λ k. ap (λ (l : List ℤ). signalOf l k) fed ∙ zeros-after xs late k)) ∙
-      ap (output published 8 (λ _. gainOf gains) (signalOf xs)) (add-comm late n)
+      getD-drop late (played (prepared bands) cs .output) n (pos 0) ∙ output-at bands (omega arith) (omega arith) cs all (late + n) inside ∙
+      output-ext bands (carried cs) (λ _. gainOf gains) (signalOf (joined cs)) (late + n) (λ m. carried-same gains cs same (late + n) m inside) ∙
+      ap (λ (x : Signal). output published bands (λ _. gainOf gains) x (late + n)) (fun-ext (λ k. ap (λ (l : List ℤ). signalOf l k) fed ∙ zeros-after xs late k)) ∙
+      ap (output published bands (λ _. gainOf gains) (signalOf xs)) (add-comm late n)
 
   -- .. and as many are written as were read
-  pub written-are : drop late (played (prepared 8) cs .output) ≡ from late (length xs) (output published 8 (λ _. gainOf gains) (signalOf xs))
+  pub written-are : drop late (played (prepared bands) cs .output) ≡ from late (length xs) (output published bands (λ _. gainOf gains) (signalOf xs))
   written-are =
-      let o = played (prepared 8) cs .output in
-      let f = output published 8 (λ _. gainOf gains) (signalOf xs) in
+      let o = played (prepared bands) cs .output in
+      let f = output published bands (λ _. gainOf gains) (signalOf xs) in
       let all-long : length o ≡ length (joined cs) =
-      ap length (whole-history 8 (omega arith) (omega arith) cs all) ∙ from-long 0 (length (joined cs)) (output published 8 (carried cs) (signalOf (joined cs))) in
+      ap length (whole-history bands (omega arith) (omega arith) cs all) ∙ from-long 0 (length (joined cs)) (output published bands (carried cs) (signalOf (joined cs))) in
       let left : length (drop late o) ≡ length xs = length-drop late o ∙ omega (arith, all-long, long) in
       ext-getD (pos 0) (drop late o) (from late (length xs) f) (left ∙ sym (from-long late (length xs) f))
       (λ n h. let i : n < length xs = omega arith in written-is n i ∙ ap f (add-comm n late) ∙ sym (from-at late (length xs) f n i))
 
   -- gains of 4,096 give every sample back
-  pub unity-gives-back : ((m : ℕ) → 1 ≤ m → m ≤ 8 → gainOf gains m ≡ pos unity) → (n : ℕ) → n < length xs →
-      leastSample ≤ℤ signalOf xs n → signalOf xs n ≤ℤ mostSample → getD (drop late (played (prepared 8) cs .output)) n (pos 0) ≡ getD xs n (pos 0)
+  pub unity-gives-back : ((m : ℕ) → 1 ≤ m → m ≤ bands → gainOf gains m ≡ pos unity) → (n : ℕ) → n < length xs →
+      leastSample ≤ℤ signalOf xs n → signalOf xs n ≤ℤ mostSample → getD (drop late (played (prepared bands) cs .output)) n (pos 0) ≡ getD xs n (pos 0)
   unity-gives-back each n h lo hi = written-is n h ∙ unity-output gains (signalOf xs) each n lo hi
 
 -- ---- arguments all 0
 
 -- eight noughts are accepted as eight gains of 4,096
-pub noughts-are-unity : argumentsOf (replicate 8 (48 ∷ [])) ≡ accepted (replicate 8 (pos unity))
+pub noughts-are-unity : argumentsOf (replicate bands (48 ∷ [])) ≡ accepted (replicate bands (pos unity))
 unfolding argumentsOf eachGain argumentOf placeOf entry gains
 noughts-are-unity = refl
 
-pub all-unity : (m : ℕ) → 1 ≤ m → m ≤ 8 → gainOf (replicate 8 (pos unity)) m ≡ pos unity
-all-unity m l h = getD-replicate 8 (m - 1) (pos unity) (pos 0) (omega arith)
+pub all-unity : (m : ℕ) → 1 ≤ m → m ≤ bands → gainOf (replicate bands (pos unity)) m ≡ pos unity
+all-unity m l h = getD-replicate bands (m - 1) (pos unity) (pos 0) (omega arith)
 
 -- .. and give every sample in range back
-pub noughts-give-back : (xs : List ℤ) (cs : List Call) → AllAccepted (prepared 8) cs → SameGains (replicate 8 (pos unity)) cs → joined cs ≡ followed xs → (n : ℕ) → n < length xs →
-    leastSample ≤ℤ signalOf xs n → signalOf xs n ≤ℤ mostSample → getD (drop late (played (prepared 8) cs .output)) n (pos 0) ≡ getD xs n (pos 0)
-noughts-give-back xs cs all same fed = unity-gives-back (replicate 8 (pos unity)) xs cs all same fed all-unity
+pub noughts-give-back : (xs : List ℤ) (cs : List Call) → AllAccepted (prepared bands) cs → SameGains (replicate bands (pos unity)) cs → joined cs ≡ followed xs → (n : ℕ) → n < length xs →
+    leastSample ≤ℤ signalOf xs n → signalOf xs n ≤ℤ mostSample → getD (drop late (played (prepared bands) cs .output)) n (pos 0) ≡ getD xs n (pos 0)
+noughts-give-back xs cs all same fed = unity-gives-back (replicate bands (pos unity)) xs cs all same fed all-unity

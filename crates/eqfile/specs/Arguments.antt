@@ -13,47 +13,48 @@ use Rattle.eqfile.specs.declared.taking.Arguments.{Arguments}
 use Rattle.eqfile.specs.declared.taking.Arguments.the-variants.{Taken, Refused}
 use Rattle.eqfile.specs.Argument.{argumentOf}
 
--- the program's band count, so many arguments
+-- rule 10.1: the program's band count, so many arguments
 abbrev pub bands : ℕ
 bands = 8
 
 -- ---- one after the other
 
--- an accepted gain is put at place n
+-- rule 10.3: an accepted gain is put at place n
 abbrev pub put : ℕ → Argument → List ℤ → Arguments × List ℤ
 put n (argument.Gain g) gains = (Taken (n + 1), set gains n g)
 put n argument.Refused gains = (Refused, gains)
 
--- one more argument: refused if it is, or if there is no place for its gain, or after a refused one
+-- rule 10.3: one more argument: refused if it is, or if there is no place for its gain, or after a refused one
 unfoldable pub another : Arguments → List ℕ → List ℤ → Arguments × List ℤ
 unfolding argumentOf
 another (Taken n) text gains = cond (leb (length gains) n) (Refused, gains) (put n (argumentOf text) gains)
 another Refused text gains = (Refused, gains)
 
--- all arguments
+-- rule 10.3: all arguments
 unfoldable pub allOf : Arguments × List ℤ → List (List ℕ) → Arguments × List ℤ
 allOf so-far [] = so-far
 allOf so-far (text ∷ texts) = allOf (another (so-far .0) text (so-far .1)) texts
 
--- the bytes of the front to be read: none before as many arguments are taken as there are bands
+-- rule 10.5: the bytes of the front to be read: none before as many arguments are taken as there are bands
 abbrev pub frontWanted : Arguments → ℕ
 frontWanted (Taken n) = cond (eqb n bands) frontLength 0
 frontWanted Refused = 0
 
 -- ---- all at once
 
--- a gain before others; refused if one is
+-- rule 10.3: a gain before others; refused if one is
 abbrev pub with : Argument → Answer (List ℤ) → Answer (List ℤ)
 with (argument.Gain g) (accepted gs) = accepted (g ∷ gs)
 with (argument.Gain g) (refused k p) = refused k p
 with argument.Refused gs = refused 30 0
 
+-- rule 10.3: the gains of the arguments in turn
 unfoldable pub eachGain : List (List ℕ) → Answer (List ℤ)
 unfolding argumentOf
 eachGain [] = accepted []
 eachGain (text ∷ texts) = with (argumentOf text) (eachGain texts)
 
--- the gains of eight accepted arguments, else 30
+-- rule 10.3: the gains of eight accepted arguments, else 30
 unfoldable pub argumentsOf : List (List ℕ) → Answer (List ℤ)
 unfolding eachGain
 argumentsOf texts = cond (eqb (length texts) bands) (eachGain texts) (refused 30 0)

@@ -7,10 +7,10 @@ use Rattle.wave.specs.Samples.{samplesOf}
 use Rattle.wave.specs.Values.{sizeOf}
 use Rattle.wave.specs.declared.format.Format.{Format}
 
--- how many data bytes the front holds from a place on that go into a block's bytes, and those bytes afterwards
+-- rule 10.11: how many data bytes the front holds from a place on that go into a block's bytes, and those bytes afterwards
 unfoldable pub carryOf : List ℕ → ℕ → List ℕ → ℕ × List ℕ
 carryOf front from bytes = let n = min (length front - from) (length bytes) in (n, take n (drop from front) ++ drop n bytes)
 
--- n samples: those whose bytes are all there, and zeros
+-- rule 10.12: n samples: those whose bytes are all there, and zeros
 unfoldable pub samplesFrom : ℕ → Format → List ℕ → List ℤ
 samplesFrom n format bytes = let k = min (length bytes / sizeOf format) n in samplesOf k format bytes ++ replicate (n - k) (pos 0)

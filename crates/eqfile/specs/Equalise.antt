@@ -13,26 +13,26 @@ use Rattle.wave.specs.declared.samples.Stored.the-variants.{Bytes, WrongLength,
 use Rattle.octave.specs.Block.{blockOf}
 use Rattle.eqfile.specs.Data.{samplesFrom}
 
--- the places lent to the call
+-- rule 10.16: the places lent to the call
 pub record Lent : Type 0 where
   pub memory : List ℤ
   pub input : List ℤ
   pub output : List ℤ
   pub stored : List ℕ
 
--- how many bytes an answer of the codec stands for
+-- rule 10.16: how many bytes an answer of the codec stands for
 abbrev pub countOf : Stored → ℕ
 countOf (Bytes n) = n
 countOf WrongLength = 0
 countOf OutOfRange = 0
 
--- the outputs but the first `skipped`, as bytes
+-- rule 10.16: the outputs but the first `skipped`, as bytes
 abbrev pub storedOf : List ℤ → ℕ → List ℕ → ℕ × List ℕ
 storedOf output skipped stored =
     cond (ltb (length output) skipped) (0, stored)
     (countOf (blockTo (drop skipped output) stored .result), blockTo (drop skipped output) stored .lent)
 
--- the samples of the bytes are the block's input; its outputs but the first `skipped` are stored, and their bytes counted
+-- rule 10.16: the samples of the bytes are the block's input; its outputs but the first `skipped` are stored, and their bytes counted
 unfoldable pub equaliseOf : List ℤ → List ℤ → Format → List ℕ → List ℤ → List ℤ → ℕ → List ℕ → Outcome ℕ Lent
 unfolding samplesFrom
 equaliseOf memory gains format bytes input output skipped stored =

@@ -15,7 +15,7 @@ use Rattle.eqfile.specs.declared.order.Refusal.the-variants as refusal
 use Rattle.eqfile.specs.declared.order.Start.{Start}
 use Rattle.eqfile.specs.declared.order.Start.the-variants.{Run, Refused}
 
--- a run: rate and bits of the file, its number of samples, and where their bytes start
+-- rule 10.6: a run: rate and bits of the file, its number of samples, and where their bytes start
 pub record Plan : Type 0 where
   pub rate : ℕ
   pub bits : ℕ
@@ -32,19 +32,19 @@ numberOf refusal.CutOff = 24
 numberOf refusal.PartSample = 25
 numberOf refusal.TooLong = 26
 
--- the samples in the data, if a header can state the bytes that they are written in
+-- rule 10.6: the samples in the data, if a header can state the bytes that they are written in
 abbrev pub planFor : Found → Answer Plan
 planFor f =
     let samples = f .size / blockSize (f .bits) in
     cond (ltb largestData (3 * samples)) (refused 26 0)
     (accepted (record { rate = f .rate; bits = f .bits; samples = samples; start = f .start }))
 
--- then the reader's; then 26
+-- rule 10.5: then the reader's; then 26
 unfoldable pub planOf : Answer Found → Answer Plan
 planOf (accepted f) = planFor f
 planOf (refused n p) = refused n p
 
--- first 30: refused arguments, and any other number than eight
+-- rules 10.3, 10.5: first 30: refused arguments, and any other number than eight
 unfoldable pub startOf : Arguments → List ℕ → Answer Plan
 unfolding planOf
 startOf (arguments.Taken n) front = cond (eqb n bands) (planOf (readOf front)) (refused 30 0)

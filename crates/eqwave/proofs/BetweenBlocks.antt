@@ -3,52 +3,47 @@ use mathlib.Core.Path.{_≡_, _∙_}
 use mathlib.Core.List.{List, _++_}
 use Prim.Native.Nat.{ℕ, _+_, _-_, _*_, _≤_, _<_}
 use native.Mathlib.Omega.{arith}
-use lib.ListN.{length, take, drop, length-take, length-drop, length-append}
-use lib.Seq.{length-front}
+use lib.ListN.{length, length-append}
 use lib.IntN.{ℤ}
-use borrow.Rule.Slice.PartMut.{putMid, midOf, same-len-mid}
 use Rattle.eqfile.specs.declared.plan.Turn.{Turn}
-use Rattle.answers.specs.Unit.{blockLimit}
 use Rattle.eqfile.specs.Turn.{fedInAll}
 use Rattle.eqfile.proofs.Turns.{Bounds}
-use Rattle.eqwave.specs.Room.{Room}
-
-pub record Going (samples total : ℕ) (memory₀ memory : List ℤ) (bytes : List ℕ) (read at : ℕ) : Type 0 where
-  pub whole : total ≡ fedInAll samples
-  pub few : samples < 4294967296
-  pub alike : length memory ≡ length memory₀
-  pub long : length bytes ≡ 3 * blockLimit
-  pub within : at ≤ total
-  pub read-most : read ≤ 3 * at
+use Rattle.eqwave.specs.Room.{samplesLong, bytesLong, Room}
 
 -- a part of the front of a list that is lent again
 pub in-front : (n : ℕ) (xs ys : List ℕ) → n ≤ length xs → n ≤ length (xs ++ ys)
 in-front n xs ys h = omega (arith, length-append xs ys)
 
-pub block-read : (samples total : ℕ) (memory₀ memory next : List ℤ) (bytes last : List ℕ) (read at got : ℕ) (t : Turn) →
-    Going samples total memory₀ memory bytes read at → Bounds samples at t → length next ≡ length memory → length last ≡ length (take (t .wanted) bytes) → got ≤ length last →
-    Going samples total memory₀ next (last ++ drop (t .wanted) bytes) (read + got) (at + t .fed)
-block-read samples total memory₀ memory next bytes last read at got t g b m l h =
-    record {
-      whole = g .whole;
-      few = g .few;
-      alike = m ∙ g .alike;
-      long = length-front bytes last (t .wanted) l ∙ g .long;
-      within = omega arith;
-      read-most = omega (arith, length-take (t .wanted) bytes);
-    }
+-- the buffers have their lengths, and no more was read than the samples fed have bytes
+pub record Between (samples total : ℕ) (memory₀ memory : List ℤ) (bytes : List ℕ) (input output : List ℤ) (stored : List ℕ) (read at : ℕ) : Type 0 where
+  pub whole : total ≡ fedInAll samples
+  pub few : samples < 4294967296
+  pub alike : length memory ≡ length memory₀
+  pub bytes-long : length bytes ≡ bytesLong
+  pub input-long : length input ≡ samplesLong
+  pub output-long : length output ≡ samplesLong
+  pub stored-long : length stored ≡ bytesLong
+  pub within : at ≤ total
+  pub read-most : read ≤ 3 * at
 
--- bytes that were there and bytes that were read after them
-pub both-within : (had more : ℕ) (xs ys : List ℕ) → had ≤ length xs → length ys ≡ length (midOf had (length xs - had) xs) → more ≤ length ys →
-    had + more ≤ length (putMid had (length xs - had) xs ys)
-both-within had more xs ys h l m =
-    omega (arith, same-len-mid had (length xs - had) xs ys l, length-take (length xs - had) (drop had xs), length-drop had xs)
+module _ {samples total : ℕ} {memory₀ memory : List ℤ} {bytes : List ℕ} {input output : List ℤ} {stored : List ℕ} {read at : ℕ}
+    (b : Between samples total memory₀ memory bytes input output stored read at) (t : Turn) (got : ℕ) (p : Bounds samples at t) (g : got ≤ t .wanted) where
+  pub next-block : (memory' : List ℤ) (bytes' : List ℕ) (input' output' : List ℤ) (stored' : List ℕ) → length memory' ≡ length memory → length bytes' ≡ length bytes →
+      length input' ≡ length input → length output' ≡ length output → length stored' ≡ length stored →
+      Between samples total memory₀ memory' bytes' input' output' stored' (read + got) (at + t .fed)
+  next-block memory' bytes' input' output' stored' m y i o s =
+      record {
+        whole = b .whole;
+        few = b .few;
+        alike = m ∙ b .alike;
+        bytes-long = y ∙ b .bytes-long;
+        input-long = i ∙ b .input-long;
+        output-long = o ∙ b .output-long;
+        stored-long = s ∙ b .stored-long;
+        within = omega arith;
+        read-most = omega arith;
+      }
 
--- the buffers that every block uses again
-pub record Buffers (input output : List ℤ) (stored : List ℕ) : Type 0 where
-  pub input-long : length input ≡ blockLimit
-  pub output-long : length output ≡ blockLimit
-  pub stored-long : length stored ≡ 3 * blockLimit
-
-pub room : (samples at : ℕ) (t : Turn) (input output : List ℤ) (stored : List ℕ) → Bounds samples at t → Buffers input output stored → Room t input output stored
-room samples at t input output stored b l = record { input-room = omega arith; output-room = omega arith; stored-room = omega arith }
+  -- the buffers have room for the turn
+  pub room : (bytes' : List ℕ) → length bytes' ≡ length bytes → Room t got bytes' input output stored
+  room bytes' y = record { got-there = omega arith; input-room = omega arith; output-room = omega arith; stored-room = omega arith }

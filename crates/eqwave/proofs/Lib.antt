@@ -1,1 +1,2 @@
 pub mod BetweenBlocks
+pub mod TakenInTurn

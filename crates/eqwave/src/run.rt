@@ -8,18 +8,21 @@ ghost use lib.ListN.{length};
 ghost use Rattle.answers.specs.Unit.{largestData};
 ghost use Rattle.eqwave.specs.Room.{Room};
 
-// The data bytes of a block: those that came with the front, then those of standard input.
-fn fetch(front: &[u8], from: usize, bytes: &mut [u8]) -> usize
-    ensures { λ r. ⌜ r ≤ length (now (bytes .exit)) ⌝ }
+// Reads the data bytes of a turn: those that came with the front, then those of standard input. Answers how many there were.
+fn fetch(front: &[u8], from: usize, wanted: usize, bytes: &mut [u8]) -> usize
+    requires { ⌜ wanted ≤ length (now bytes) ⌝ }
+    ensures { λ r. ⌜ r ≤ wanted ⌝ }
 {
-    let had = eqfile::carry(front, from, bytes);
-    had + io::read_full(libc::STDIN_FILENO, &mut bytes[had..])
+    let had = eqfile::carry(front, from, &mut bytes[..wanted]);
+    had + io::read_full(libc::STDIN_FILENO, &mut bytes[had..wanted])
 }
 
-// Equalises a block and writes it. Answers whether standard output took it. The last three are buffers, lent so that no block clears them.
+// Equalises the block of a turn and writes it. Answers whether standard output took it. The last three are buffers, lent so that no
+// block clears them.
 fn put(
     format: Format,
     bytes: &[u8],
+    got: usize,
     turn: Turn,
     gains: &[i32],
     memory: &mut [i32],
@@ -27,7 +30,7 @@ fn put(
     output: &mut [i32],
     stored: &mut [u8],
 ) -> bool
-    requires { ⌜ Room turn (now input) (now output) (now stored) ⌝ }
+    requires { ⌜ Room turn got (now bytes) (now input) (now output) (now stored) ⌝ }
 {
     let fed = turn.fed;
     let written = turn.written;
@@ -35,7 +38,7 @@ fn put(
         memory,
         gains,
         format,
-        bytes,
+        &bytes[..got],
         &mut input[..fed],
         &mut output[..fed],
         turn.skipped,
@@ -63,11 +66,11 @@ fn blocks(
     let total = eqfile::fed_in_all(samples);
     while at < total {
         let turn = eqfile::next_turn(format, samples, at, read);
-        let wanted = turn.wanted;
-        let got = fetch(front, from, &mut bytes[..wanted]);
+        let got = fetch(front, from, turn.wanted, &mut bytes);
         if !put(
             format,
-            &bytes[..got],
+            &bytes,
+            got,
             turn,
             gains,
             memory,

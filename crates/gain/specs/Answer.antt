@@ -4,7 +4,7 @@ use Rattle.answers.specs.Answer.{Answer, accepted, refused}
 use Rattle.gain.specs.declared.Gained.{Gained}
 use Rattle.gain.specs.declared.Gained.the-variants.{Gain, NotHalfDecibels, NotFactor}
 
--- the gain; 11 for decibels and 12 for a factor that has none
+-- rule 6.8, gain command: the gain; 11 for decibels and 12 for a factor that has none
 abbrev pub answerOf : Gained → Answer ℤ
 answerOf (Gain g) = accepted g
 answerOf NotHalfDecibels = refused 11 0

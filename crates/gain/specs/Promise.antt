@@ -7,7 +7,7 @@ use Rattle.gain.specs.declared.Command.the-variants.{Decibels, Factor, O
 use Rattle.gain.specs.declared.Gained.{Gained}
 use Rattle.gain.specs.declared.Gained.the-variants.{Gain}
 
--- the gain of decibels, of a factor, or of off, which is 0
+-- rules 7.1, 7.7: the gain of decibels, of a factor, or of off, which is 0
 abbrev pub commandGain : Command → Gained
 commandGain (Decibels x) = decibelsGain x
 commandGain (Factor x) = factorGain x

@@ -5,6 +5,7 @@ use Rattle.gain.specs.declared.Gained.the-variants.{Gain, NotHalfDecibels, NotF
 use Rattle.printing.specs.declared.Answer.{Answer}
 use Rattle.printing.specs.declared.Answer.the-variants.{Accepted, Refused}
 
+-- rule 6.8: what is printed of an answer
 abbrev pub shownAs : Gained → Answer
 shownAs (Gain g) = Accepted (natAbs g)
 shownAs NotHalfDecibels = Refused 11

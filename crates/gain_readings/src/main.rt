@@ -95,7 +95,11 @@ fn write(answer: Gained) {
 }
 
 fn command(decibels: bool, x: f32) -> Command {
-    if decibels { Command::Decibels(x) } else { Command::Factor(x) }
+    if decibels {
+        Command::Decibels(x)
+    } else {
+        Command::Factor(x)
+    }
 }
 
 fn one(decibels: bool, bits: u32) {

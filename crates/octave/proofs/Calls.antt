@@ -9,12 +9,12 @@ use native.Mathlib.Omega.{arith}
 use lib.Pow.{pow-pos}
 use lib.ListN.{length, getD, replicate, length-replicate, List·getD-eq-default}
 use lib.IntN.{ℤ, pos, natAbs}
-use Rattle.answers.specs.Answer.{accepted}
+use Rattle.answers.specs.Answer.{accepted, numberIn}
 use Rattle.answers.specs.Checks.{allHold, Outcome}
 use Rattle.answers.specs.Judging.{allRefuse}
 use Rattle.answers.specs.Range.{within, allWithin}
 use Rattle.answers.specs.Unit.{leastSample, mostSample, largestSample, largestGain}
-use Rattle.answers.proofs.Laws.{and-left, and-right, all-accept, accepted-holds}
+use Rattle.answers.proofs.Laws.{and-left, and-right, decided, all-accept, unnumbered-holds}
 use Rattle.answers.proofs.Ranges.{all-at}
 use Rattle.whole.proofs.Signed.{about}
 use Rattle.tree.specs.Prototype.{published}
@@ -57,12 +57,17 @@ module _ (m gains input before : List ℤ) where
   unfolding allHold
   input-held h = search (and-left, and-right) depth 12
 
-  pub accepted-ran : (k : ℕ) → blockAnswer (blockOf m gains input before .result) ≡ accepted k → RanIt m gains input before
-  accepted-ran k e =
+  pub unnumbered-ran : numberIn (blockAnswer (blockOf m gains input before .result)) ≡ 0 → RanIt m gains input before
+  unnumbered-ran e =
       let cs = blockChecks m gains input before in
       let after = equalised m gains input in
-      let held : allHold cs ≡ true = accepted-holds blockAnswer cs (m, before) after (Written (length input)) k (all-refuse m gains input before) e in
-      record { is = all-accept (m, before) after (Written (length input)) cs held; gains-allowed = gains-held held; in-range = input-held held }
+      let r = Written (length input) in
+      let held : allHold cs ≡ true =
+      unnumbered-holds blockAnswer cs r (all-refuse m gains input before) (sym (ap (λ (q : Blocked). numberIn (blockAnswer q)) (decided (m, before) after r cs)) ∙ e) in
+      record { is = all-accept (m, before) after r cs held; gains-allowed = gains-held held; in-range = input-held held }
+
+  pub accepted-ran : (k : ℕ) → blockAnswer (blockOf m gains input before .result) ≡ accepted k → RanIt m gains input before
+  accepted-ran k e = unnumbered-ran (ap numberIn e)
 
 -- ---- the samples of accepted calls are in range, so no line's value is ever limited
 

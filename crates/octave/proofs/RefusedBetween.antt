@@ -17,32 +17,20 @@ use Rattle.tree.specs.Signal.{signalOf}
 use Rattle.tree.specs.Tree.{output}
 use Rattle.tree.specs.Exact.{commonScale, slack}
 use Rattle.octave.specs.declared.block.Blocked.{Blocked}
-use Rattle.octave.specs.declared.block.Blocked.the-variants.{Written, Memory, GainCount, Gain, OutputLength, TooLong, Sample}
+use Rattle.octave.specs.declared.block.Blocked.the-variants.{Written}
 use Rattle.octave.specs.Answer.{blockAnswer}
 use Rattle.octave.specs.Memory.{prepared}
 use Rattle.octave.specs.Block.{blockChecks, equalised}
 use Rattle.octave.specs.History.{Call, called, afterCall, isAccepted, Played, played, acceptedOf, AllAccepted, joined, carried, from, written, exact}
-use Rattle.octave.proofs.Calls.{accepted-ran}
+use Rattle.octave.proofs.Calls.{unnumbered-ran}
 use Rattle.octave.proofs.WholeHistory.{whole-history}
 use Rattle.octave.proofs.Demands.{written-near}
 
 -- ---- one call
 
--- a case without a number is the accepted one
-numbered : (r : Blocked) → numberIn (blockAnswer r) ≡ 0 → (k : ℕ) × (blockAnswer r ≡ accepted k)
-numbered (Written n) e = (n, refl)
-numbered Memory e = absurd (omega arith)
-numbered GainCount e = absurd (omega arith)
-numbered Gain e = absurd (omega arith)
-numbered OutputLength e = absurd (omega arith)
-numbered TooLong e = absurd (omega arith)
-numbered Sample e = absurd (omega arith)
-
 -- an accepted call answers its block length
 accepted-length : (m : List ℤ) (c : Call) → isAccepted m c ≡ true → blockAnswer (called m c .result) ≡ accepted (length (c .input))
-accepted-length m c e =
-    let a = numbered (called m c .result) (eqb-true (numberIn (blockAnswer (called m c .result))) 0 e) in
-    ap (λ (o : Outcome Blocked (List ℤ × List ℤ)). blockAnswer (o .result)) (accepted-ran m (c .gains) (c .input) (c .before) (a .0) (a .1) .is)
+accepted-length m c e = ap (λ (o : Outcome Blocked (List ℤ × List ℤ)). blockAnswer (o .result)) (unnumbered-ran m (c .gains) (c .input) (c .before) (eqb-true (numberIn (blockAnswer (called m c .result))) 0 e) .is)
 
 -- a refused call leaves the memory
 refused-memory : (m : List ℤ) (c : Call) → isAccepted m c ≡ false → afterCall m c ≡ m

@@ -17,7 +17,7 @@ preparedAnswer (prepared.the-variants.Delay t) = accepted t
 preparedAnswer prepared.the-variants.BandCount = refused 1 0
 preparedAnswer prepared.the-variants.MemoryLength = refused 2 0
 
--- a lent memory: its bands, or the number that a block call refuses it with
+-- rule 6.8, block: a lent memory: its bands, or the number that a block call refuses it with
 abbrev pub keptAnswer : kept.Kept → Answer ℕ
 keptAnswer (kept.the-variants.Bands n) = accepted n
 keptAnswer kept.the-variants.CountWrong = refused 3 0

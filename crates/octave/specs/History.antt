@@ -16,17 +16,17 @@ use Rattle.octave.specs.Answer.{blockAnswer}
 use Rattle.octave.specs.Memory.{prepared}
 use Rattle.octave.specs.Block.{blockOf}
 
--- a block call: its gains, its samples, and what the output block held before
+-- rule 11.2: a block call: its gains, its samples, and what the output block held before
 pub record Call : Type 0 where
   pub gains : List ℤ
   pub input : List ℤ
   pub before : List ℤ
 
--- what a call does to a memory
+-- rule 6.8, block: what a call does to a memory
 abbrev pub called : List ℤ → Call → Outcome Blocked (List ℤ × List ℤ)
 called m c = blockOf m (c .gains) (c .input) (c .before)
 
--- the memory after it
+-- rules 6.4, 6.7: the memory after it
 abbrev pub afterCall : List ℤ → Call → List ℤ
 afterCall m c = called m c .lent .0
 
@@ -34,11 +34,12 @@ afterCall m c = called m c .lent .0
 abbrev pub isAccepted : List ℤ → Call → Bool
 isAccepted m c = eqb (numberIn (blockAnswer (called m c .result))) 0
 
--- the memory after some calls, and the outputs of the accepted ones joined
+-- rules 11.2, 11.4: the memory after some calls, and the outputs of the accepted ones joined
 pub record Played : Type 0 where
   pub memory : List ℤ
   pub output : List ℤ
 
+-- rules 11.2, 11.4: calls in turn
 unfoldable pub played : List ℤ → List Call → Played
 played m [] = record { memory = m; output = [] }
 played m (c ∷ cs) =
@@ -65,12 +66,12 @@ unfoldable pub carried : List Call → ℕ → ℕ → ℤ
 carried [] n m = pos 0
 carried (c ∷ cs) n m = cond (ltb n (length (c .input))) (gainOf (c .gains) m) (carried cs (n - length (c .input)) m)
 
--- f n, f (n + 1), .., k of them
+-- rule 11.2: f n, f (n + 1), .., k of them
 unfoldable pub from : ℕ → ℕ → (ℕ → ℤ) → List ℤ
 from n zero f = []
 from n (suc k) f = f n ∷ from (n + 1) k f
 
--- the output that was written for sample n of calls from prepared memory
+-- rule 11.2: the output that was written for sample n of calls from prepared memory
 abbrev pub written : ℕ → List Call → ℕ → ℤ
 written M cs n = getD (played (prepared M) cs .output) n (pos 0)
 

@@ -44,7 +44,7 @@ prepareChecks bands memory =
     check (countAllowed bands) BandCount ∷
     check (eqb (length memory) (memoryLength (natAbs bands))) MemoryLength ∷ []
 
--- .. and the call: the delay and the prepared memory
+-- rule 6.8, prepare: and the call: the delay and the prepared memory
 abbrev pub prepareOf : ℤ → List ℤ → Outcome Prepared (List ℤ)
 prepareOf bands memory =
     decide (prepareChecks bands memory) memory (Delay (delay published (natAbs bands))) (prepared (natAbs bands))

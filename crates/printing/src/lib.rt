@@ -40,11 +40,7 @@ pub fn count(n: usize) {
 pub fn magnitude(z: i32) -> u64
     ensures { λ r. ⌜ r ≡ natAbs z ⌝ }
 {
-    if z < 0 {
-        (-1 - z) as u64 + 1
-    } else {
-        z as u64
-    }
+    if z < 0 { (-1 - z) as u64 + 1 } else { z as u64 }
 }
 
 pub fn signed(z: i32) {

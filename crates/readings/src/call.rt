@@ -92,6 +92,26 @@ fn held(memory: &mut [i32], gains: &[i32], input: &[i32], output: &mut [i32], ke
     line();
 }
 
+fn with_output(memory: &mut [i32], gains: &[i32], input: &[i32], outputs: usize, kept: &[i32]) {
+    let mut output = long(MARK);
+    let n = front(outputs, &output);
+    held(memory, gains, input, &mut output[..n], kept);
+}
+
+fn with_input(memory: &mut [i32], gains: &[i32], samples: Row, outputs: usize, kept: &[i32]) {
+    let mut input = long(samples.0);
+    put(&mut input, samples.2, samples.3);
+    let n = front(samples.1, &input);
+    with_output(memory, gains, &input[..n], outputs, kept);
+}
+
+fn with_gains(memory: &mut [i32], factors: Row, samples: Row, outputs: usize, kept: &[i32]) {
+    let mut gains = [factors.0; 10];
+    put(&mut gains, factors.2, factors.3);
+    let n = front(factors.1, &gains);
+    with_input(memory, &gains[..n], samples, outputs, kept);
+}
+
 fn use_two(memory: &mut [i32]) {
     let before = [8388607i32, -8388608, 100000, -1, 7, 0, 16];
     let mut output = [0i32; 7];
@@ -113,17 +133,9 @@ fn begin(memory: &mut [i32], kind: Kind) {
 
 pub(crate) fn call(kind: Kind, places: Row, factors: Row, samples: Row, outputs: usize) {
     let mut memory = wide(places.0);
-    let mut gains = [factors.0; 10];
-    let mut input = long(samples.0);
-    let mut output = long(MARK);
     begin(&mut memory, kind);
     put(&mut memory, places.2, places.3);
-    put(&mut gains, factors.2, factors.3);
-    put(&mut input, samples.2, samples.3);
     let kept = memory;
-    let m = front(places.1, &memory);
-    let k = front(factors.1, &gains);
-    let n = front(samples.1, &input);
-    let o = front(outputs, &output);
-    held(&mut memory[..m], &gains[..k], &input[..n], &mut output[..o], &kept);
+    let n = front(places.1, &memory);
+    with_gains(&mut memory[..n], factors, samples, outputs, &kept);
 }

@@ -19,22 +19,31 @@ const LENGTHS: [usize; 9] = [1, 0, 7, 40, 500, 4096, 33, 4096, 4096];
 
 const STARTS: [usize; 9] = [0, 1, 1, 8, 48, 548, 4644, 4677, 8773];
 
+fn with_output(memory: &mut [i32], gains: &[i32], input: &[i32], output: &mut [i32]) {
+    answered(memory, gains, input, output);
+    list(memory);
+    list(output);
+    line();
+}
+
+fn with_input(memory: &mut [i32], gains: &[i32], input: &[i32]) {
+    let mut output = long(MARK);
+    let n = front(input.len(), &output);
+    with_output(memory, gains, input, &mut output[..n]);
+}
+
 // One block, its gains and then its samples drawn.
 fn drawn(
     memory: &mut [i32],
     gains: &mut [i32],
     input: &mut [i32],
-    output: &mut [i32],
     signal: Signal,
     start: usize,
     state: u64,
 ) -> u64 {
     let between = draw(Signal::Gains, gains, 0, state);
     let after = draw(signal, input, start, between);
-    answered(memory, gains, input, output);
-    list(memory);
-    list(output);
-    line();
+    with_input(memory, gains, input);
     after
 }
 
@@ -43,12 +52,16 @@ fn turn(memory: &mut [i32], bands: u64, i: usize, signal: Signal, state: u64) ->
 {
     let mut gains = [0i32; 10];
     let mut input = long(0);
-    let mut output = long(MARK);
     let m = front(bands as usize, &gains);
     let n = front(LENGTHS[i], &input);
-    let o = front(LENGTHS[i], &output);
-    let start = STARTS[i];
-    drawn(memory, &mut gains[..m], &mut input[..n], &mut output[..o], signal, start, state)
+    drawn(
+        memory,
+        &mut gains[..m],
+        &mut input[..n],
+        signal,
+        STARTS[i],
+        state,
+    )
 }
 
 fn turns(memory: &mut [i32], bands: u64, signal: Signal) {

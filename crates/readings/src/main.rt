@@ -11,8 +11,10 @@ use call::call;
 use draw::Signal;
 use printing::magnitude;
 
-// Band counts: all that are taken, and some that are not.
-const COUNTS: [i32; 16] = [-2147483648, -2, -1, 0, 1, 2, 3, 4, 5, 6, 7, 8, 9, 10, 11, 2147483647];
+// Band counts at the edges, and those between.
+const COUNTS: [i32; 10] = [-2147483648, -2, -1, 0, 1, 2, 3, 10, 11, 2147483647];
+
+const BETWEEN: [i32; 6] = [4, 5, 6, 7, 8, 9];
 
 // Memory lengths: those of 2, 3, 8, 10 and, by the layout, 11 bands, and others beside them.
 const PLACES: [usize; 12] = [0, 1, 2, 19, 20, 21, 74, 8066, 41473, 41474, 41475, 92162];
@@ -24,7 +26,14 @@ const POSITIONS: [i32; 6] = [-2147483648, -1, 0, 17, 18, 2147483647];
 
 const GAINS: [i32; 6] = [-2147483648, -1, 0, 16384, 16385, 2147483647];
 
-const SAMPLES: [i32; 6] = [-2147483648, -8388609, -8388608, 8388607, 8388608, 2147483647];
+const SAMPLES: [i32; 6] = [
+    -2147483648,
+    -8388609,
+    -8388608,
+    8388607,
+    8388608,
+    2147483647,
+];
 
 const FEW: [i32; 4] = [0, 1, 2, 3];
 
@@ -65,24 +74,44 @@ enum Ask {
     Any(i32),
 }
 
+fn with_memory(kind: Kind, places: Row) {
+    call(kind, places, UNITY, PAIR, 2);
+}
+
+fn with_gains(factors: Row) {
+    call(Kind::Used, MEMORY, factors, PAIR, 2);
+}
+
+fn with_samples(samples: Row, outputs: usize) {
+    call(Kind::Used, MEMORY, UNITY, samples, outputs);
+}
+
+fn any(bands: i32, position: i32) {
+    let places = Row(0, answer::places(bands), 1, position);
+    let gains = Row(0, magnitude(bands) as usize, 0, 8);
+    call(
+        Kind::Any(bands),
+        places,
+        gains,
+        Row(8388607, 40, 4097, 0),
+        40,
+    );
+}
+
 fn one(ask: Ask, z: i32) {
     let n = magnitude(z) as usize;
     match ask {
         Ask::Length => call::length(z),
         Ask::Prepare(places) => call::prepared(z, places),
-        Ask::Count(places) => call(Kind::Empty, Row(0, places, 0, z), UNITY, PAIR, 2),
-        Ask::Place(at) => call(Kind::Used, Row(0, 20, at, z), UNITY, PAIR, 2),
-        Ask::Gains => call(Kind::Used, MEMORY, Row(4096, n, 10, 0), PAIR, 2),
-        Ask::Gain(at) => call(Kind::Used, MEMORY, Row(4096, 2, at, z), PAIR, 2),
-        Ask::Outputs(samples) => call(Kind::Used, MEMORY, UNITY, Row(1, samples, 1, -1), n),
-        Ask::Samples => call(Kind::Used, MEMORY, UNITY, Row(5, n, 4097, 0), n),
-        Ask::Sample(at) => call(Kind::Used, MEMORY, UNITY, Row(1, 2, at, z), 2),
+        Ask::Count(places) => with_memory(Kind::Empty, Row(0, places, 0, z)),
+        Ask::Place(at) => with_memory(Kind::Used, Row(0, 20, at, z)),
+        Ask::Gains => with_gains(Row(4096, n, 10, 0)),
+        Ask::Gain(at) => with_gains(Row(4096, 2, at, z)),
+        Ask::Outputs(samples) => with_samples(Row(1, samples, 1, -1), n),
+        Ask::Samples => with_samples(Row(5, n, 4097, 0), n),
+        Ask::Sample(at) => with_samples(Row(1, 2, at, z), 2),
         Ask::Course(signal) => course::course(z, signal),
-        Ask::Any(bands) => {
-            let places = Row(0, answer::places(bands), 1, z);
-            let gains = Row(0, magnitude(bands) as usize, 0, 8);
-            call(Kind::Any(bands), places, gains, Row(8388607, 40, 4097, 0), 40);
-        }
+        Ask::Any(bands) => any(bands, z),
     }
 }
 
@@ -95,6 +124,7 @@ fn each(ask: Ask, numbers: &[i32]) {
 // Each band count and each position by itself.
 fn memories() {
     each(Ask::Length, &COUNTS);
+    each(Ask::Length, &BETWEEN);
     each(Ask::Prepare(20), &COUNTS);
     each(Ask::Place(0), &COUNTS);
     each(Ask::Place(1), &POSITIONS);
@@ -138,7 +168,13 @@ fn faulty(set: usize) {
     let count = chosen(set / 2 % 2 == 1, 3, 2);
     let gains = Row(4096, count, chosen(set / 4 % 2 == 1, 0, 10), 16385);
     let input = Row(5, samples, chosen(set / 32 % 2 == 1, last, 4097), 8388608);
-    call(Kind::Used, memory, gains, input, chosen(set / 8 % 2 == 1, last, samples));
+    call(
+        Kind::Used,
+        memory,
+        gains,
+        input,
+        chosen(set / 8 % 2 == 1, last, samples),
+    );
 }
 
 // Any faults together: the earliest number is given.

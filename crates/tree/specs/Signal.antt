@@ -6,6 +6,7 @@ use mathlib.Core.List.{List}
 use lib.ListN.{getD}
 use lib.IntN.{ℤ, pos}
 
+-- rule 3.1: a number for each n
 abbrev pub Signal : Type 0
 Signal = ℕ → ℤ
 

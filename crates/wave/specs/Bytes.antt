@@ -15,11 +15,11 @@ unfoldable pub little : ℕ → ℕ → List ℕ
 little zero n = []
 little (suc k) n = n % 256 ∷ little k (n / 256)
 
--- the number in the k bytes from a place on
+-- rule 8.1: the number in the k bytes from a place on
 unfoldable pub field : List ℕ → ℕ → ℕ → ℕ
 field s place k = number (take k (drop place s))
 
--- whether two rows of bytes are equal
+-- rule 8.1: whether two rows of bytes are equal
 unfoldable pub same : List ℕ → List ℕ → Bool
 same [] [] = true
 same [] (b ∷ t) = false

@@ -32,7 +32,7 @@ writeChecks buffer rate size =
     check (eqb (size % 3) 0) WrongLength ∷
     check (leb size 4294967259) WrongLength ∷ []
 
--- `write`, with the buffer afterwards
+-- rule 6.8, header writer: `write`, with the buffer afterwards
 unfoldable pub writeOf : List ℕ → ℕ → ℕ → Outcome Written (List ℕ)
 writeOf buffer rate size = decide (writeChecks buffer rate size) buffer (Header 44) (header rate size)
 

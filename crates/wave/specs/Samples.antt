@@ -33,7 +33,7 @@ takenChecks s format samples =
     check (eqb (length s % sizeOf format) 0) taken.PartSample ∷
     check (eqb (length samples) (length s / sizeOf format)) taken.WrongLength ∷ []
 
--- `bytes_to_samples`, with the samples afterwards
+-- rule 9.5: `bytes_to_samples`, with the samples afterwards
 unfoldable pub blockFrom : List ℕ → Format → List ℤ → Outcome Taken (List ℤ)
 blockFrom s format samples =
     decide (takenChecks s format samples) samples (taken.Samples (length samples)) (samplesOf (length samples) format s)
@@ -44,7 +44,7 @@ storedChecks samples buffer =
     check (eqb (length buffer) (3 * length samples)) stored.WrongLength ∷
     check (allWithin leastSample mostSample samples) stored.OutOfRange ∷ []
 
--- `samples_to_bytes`, with the buffer afterwards
+-- rule 9.6: `samples_to_bytes`, with the buffer afterwards
 unfoldable pub blockTo : List ℤ → List ℕ → Outcome Stored (List ℕ)
 blockTo samples buffer = decide (storedChecks samples buffer) buffer (stored.Bytes (length buffer)) (bytesOf samples)
 

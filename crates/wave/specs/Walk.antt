@@ -19,12 +19,12 @@ pub record Found : Type 0 where
   pub size : ℕ
   pub start : ℕ
 
--- the `fmt ` before a chunk: none, or its rate and bits
+-- rule 8.6: the `fmt ` before a chunk: none, or its rate and bits
 pub data Seen : Type 0 where
   nothing : Seen
   sound : ℕ → ℕ → Seen
 
--- what a chunk comes to: the answer, or the place of the next chunk and the `fmt ` so far
+-- rule 8.4: what a chunk comes to: the answer, or the place of the next chunk and the `fmt ` so far
 pub data Step : Type 0 where
   ends : Answer Found → Step
   on : ℕ → Seen → Step
@@ -70,12 +70,12 @@ chunk rest at seen =
     (on (next at (field rest 4 4)) seen)))
     (ends (refused 24 0))
 
--- an answer ends the walk; else it goes on
+-- rule 8.4: an answer ends the walk; else it goes on
 abbrev pub follow : (ℕ → Seen → Answer Found) → Step → Answer Found
 follow walk (ends answer) = answer
 follow walk (on at seen) = walk at seen
 
--- the walk from a chunk on, for a number of steps; a front has fewer chunks than bytes, so that as many steps as bytes are never spent
+-- rules 8.4, 8.11: the walk from a chunk on, for a number of steps; a front has fewer chunks than bytes, so that as many steps as bytes are never spent
 unfoldable pub walk : ℕ → List ℕ → ℕ → Seen → Answer Found
 walk zero front at seen = refused 24 0
 walk (suc steps) front at seen = follow (walk steps front) (chunk (drop at front) at seen)

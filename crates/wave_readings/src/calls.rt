@@ -14,19 +14,34 @@ use printing::told;
 use wave::Format;
 use wave::Sample;
 
+// The room for a header, its rate, the length of its samples.
+pub struct Heading(pub usize, pub u32, pub u32);
+
+// So many bytes of a number, the lowest first.
+pub struct Word(pub u32, pub usize);
+
+// A number, and the room for its bytes.
+pub struct Number(pub i32, pub usize);
+
+// So many bytes of six, whether a sample has three of them, and the room for samples.
+pub struct Part(pub usize, pub bool, pub usize);
+
+// So many samples of two, and the room for bytes.
+pub struct Pair(pub i32, pub i32, pub usize, pub usize);
+
 fn write_in(buffer: &mut [u8], rate: u32, length: u32) {
     told(answer::written(wave::write(buffer, rate, length)));
     hex(buffer);
     line();
 }
 
-pub(crate) fn write(room: usize, rate: u32, length: u32) {
+pub(crate) fn write(h: Heading) {
     let mut space = [170u8; 48];
-    let n = front_bytes(room, &space);
+    let n = front_bytes(h.0, &space);
     text(b"write");
-    field(rate as u64);
-    field(length as u64);
-    write_in(&mut space[..n], rate, length);
+    field(h.1 as u64);
+    field(h.2 as u64);
+    write_in(&mut space[..n], h.1, h.2);
 }
 
 fn value(answer: Sample) {
@@ -50,9 +65,14 @@ fn low(word: u32) -> u8 {
     (word % 256) as u8
 }
 
-pub(crate) fn sample(word: u32, length: usize) {
-    let bytes = [low(word), low(word / 256), low(word / 65536), low(word / 16777216)];
-    let n = front_bytes(length, &bytes);
+pub(crate) fn sample(w: Word) {
+    let bytes = [
+        low(w.0),
+        low(w.0 / 256),
+        low(w.0 / 65536),
+        low(w.0 / 16777216),
+    ];
+    let n = front_bytes(w.1, &bytes);
     sample_in(&bytes[..n]);
 }
 
@@ -64,10 +84,10 @@ fn bytes_in(z: i32, buffer: &mut [u8]) {
     line();
 }
 
-pub(crate) fn bytes(z: i32, room: usize) {
+pub(crate) fn bytes(z: Number) {
     let mut space = [170u8; 4];
-    let n = front_bytes(room, &space);
-    bytes_in(z, &mut space[..n]);
+    let n = front_bytes(z.1, &space);
+    bytes_in(z.0, &mut space[..n]);
 }
 
 pub(crate) fn take_in(s: &[u8], format: Format, samples: &mut [i32]) {
@@ -77,15 +97,18 @@ pub(crate) fn take_in(s: &[u8], format: Format, samples: &mut [i32]) {
     line();
 }
 
-pub(crate) fn take(length: usize, wide: bool, room: usize) {
+fn format(wide: bool) -> Format {
+    if wide { Format::Bits24 } else { Format::Bits16 }
+}
+
+pub(crate) fn take(p: Part) {
     let bytes = [1u8, 0, 0, 255, 255, 255];
     let mut space = [77i32; 8];
-    let n = front_bytes(length, &bytes);
-    let m = front(room, &space);
-    let format = if wide { Format::Bits24 } else { Format::Bits16 };
+    let n = front_bytes(p.0, &bytes);
+    let m = front(p.2, &space);
     text(b"take");
     count(n);
-    take_in(&bytes[..n], format, &mut space[..m]);
+    take_in(&bytes[..n], format(p.1), &mut space[..m]);
 }
 
 fn store_in(s: &[i32], buffer: &mut [u8]) {
@@ -96,10 +119,10 @@ fn store_in(s: &[i32], buffer: &mut [u8]) {
     line();
 }
 
-pub(crate) fn store(a: i32, b: i32, samples: usize, room: usize) {
-    let two = [a, b];
+pub(crate) fn store(p: Pair) {
+    let two = [p.0, p.1];
     let mut space = [170u8; 8];
-    let k = front(samples, &two);
-    let n = front_bytes(room, &space);
+    let k = front(p.2, &two);
+    let n = front_bytes(p.3, &space);
     store_in(&two[..k], &mut space[..n]);
 }

@@ -1,5 +1,6 @@
 // The files that the arguments name: each is read, its first samples are taken, and its header is written again.
 use crate::answer::bits;
+use crate::calls::Heading;
 use crate::calls::take_in;
 use crate::calls::write;
 use printing::Answer;
@@ -41,7 +42,7 @@ fn accepted(front: &[u8], rate: u32, format: Format, length: u32, start: usize) 
     if start <= front.len() {
         first_samples(&front[start..], format, length as usize);
     }
-    write(44, rate, length);
+    write(Heading(44, rate, length));
 }
 
 fn refused(n: u64) {

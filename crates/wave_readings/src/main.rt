@@ -4,40 +4,92 @@ mod answer;
 mod calls;
 mod files;
 
+use calls::Heading;
+use calls::Number;
+use calls::Pair;
+use calls::Part;
+use calls::Word;
 ghost use Prim.Native.Nat.{_<_};
 
 // Writing a header: the buffer, the rate, the length of the samples.
-const ROOMS: [usize; 12] = [44, 44, 44, 43, 45, 44, 44, 44, 44, 44, 44, 0];
-
-const RATES: [u32; 12] = [48000, 44100, 44100, 44101, 48000, 44101, 96000, 48000, 48000, 48000, 48000, 44100];
-
-const LENGTHS: [u32; 12] = [6, 0, 4294967259, 4, 6, 4, 6, 7, 8, 4294967262, 4294967295, 3];
+const HEADERS: [Heading; 12] = [
+    Heading(44, 48000, 6),
+    Heading(44, 44100, 0),
+    Heading(44, 44100, 4294967259),
+    Heading(43, 44101, 4),
+    Heading(45, 48000, 6),
+    Heading(44, 44101, 4),
+    Heading(44, 96000, 6),
+    Heading(44, 48000, 7),
+    Heading(44, 48000, 8),
+    Heading(44, 48000, 4294967262),
+    Heading(44, 48000, 4294967295),
+    Heading(0, 44100, 3),
+];
 
 // A sample from bytes: so many of these, the lowest first.
-const WORDS: [u32; 12] = [0, 1, 32768, 32767, 65535, 1, 1, 16777215, 8388608, 8388607, 2147483648, 66051];
-
-const BYTES: [usize; 12] = [0, 1, 2, 2, 2, 2, 3, 3, 3, 3, 4, 3];
+const WORDS: [Word; 12] = [
+    Word(0, 0),
+    Word(1, 1),
+    Word(32768, 2),
+    Word(32767, 2),
+    Word(65535, 2),
+    Word(1, 2),
+    Word(1, 3),
+    Word(16777215, 3),
+    Word(8388608, 3),
+    Word(8388607, 3),
+    Word(2147483648, 4),
+    Word(66051, 3),
+];
 
 // A sample to bytes: the number and the buffer.
-const NUMBERS: [i32; 12] = [1, -1, 0, 8388607, -8388608, 8388608, -8388609, 2147483647, -2147483648, 5, 5, 8388608];
+const NUMBERS: [Number; 12] = [
+    Number(1, 3),
+    Number(-1, 3),
+    Number(0, 3),
+    Number(8388607, 3),
+    Number(-8388608, 3),
+    Number(8388608, 3),
+    Number(-8388609, 3),
+    Number(2147483647, 3),
+    Number(-2147483648, 3),
+    Number(5, 2),
+    Number(5, 4),
+    Number(8388608, 2),
+];
 
-const THREE: [usize; 12] = [3, 3, 3, 3, 3, 3, 3, 3, 3, 2, 4, 2];
-
-// Samples from bytes: so many of six, the bits of each, and how many samples there is room for.
-const LENT: [usize; 12] = [6, 6, 0, 5, 5, 6, 6, 2, 4, 3, 1, 0];
-
-const WIDE: [bool; 12] = [true, false, true, true, false, true, true, true, false, true, false, false];
-
-const PLACES: [usize; 12] = [2, 3, 0, 1, 2, 1, 3, 5, 2, 1, 0, 1];
+// Samples from bytes: so many of six, whether a sample has 24 bits, and how many samples there is room for.
+const PARTS: [Part; 12] = [
+    Part(6, true, 2),
+    Part(6, false, 3),
+    Part(0, true, 0),
+    Part(5, true, 1),
+    Part(5, false, 2),
+    Part(6, true, 1),
+    Part(6, true, 3),
+    Part(2, true, 5),
+    Part(4, false, 2),
+    Part(3, true, 1),
+    Part(1, false, 0),
+    Part(0, false, 1),
+];
 
 // Samples to bytes: so many of two, and the buffer.
-const FIRST: [i32; 12] = [0, 1, 8388607, 1, -8388609, 1, 1, 8388608, 0, 5, 5, -256];
-
-const SECOND: [i32; 12] = [0, -1, -8388608, 8388608, 1, -1, -1, 0, 0, 0, 8388608, 65536];
-
-const COUNTS: [usize; 12] = [0, 2, 2, 2, 2, 2, 2, 1, 0, 1, 1, 2];
-
-const SPACES: [usize; 12] = [0, 6, 6, 6, 6, 5, 7, 2, 1, 3, 3, 6];
+const PAIRS: [Pair; 12] = [
+    Pair(0, 0, 0, 0),
+    Pair(1, -1, 2, 6),
+    Pair(8388607, -8388608, 2, 6),
+    Pair(1, 8388608, 2, 6),
+    Pair(-8388609, 1, 2, 6),
+    Pair(1, -1, 2, 5),
+    Pair(1, -1, 2, 7),
+    Pair(8388608, 0, 1, 2),
+    Pair(0, 0, 0, 1),
+    Pair(5, 0, 1, 3),
+    Pair(5, 8388608, 1, 3),
+    Pair(-256, 65536, 2, 6),
+];
 
 enum Ask {
     Write,
@@ -51,11 +103,11 @@ fn one(ask: Ask, i: usize)
     requires { ⌜ i < 12 ⌝ }
 {
     match ask {
-        Ask::Write => calls::write(ROOMS[i], RATES[i], LENGTHS[i]),
-        Ask::Sample => calls::sample(WORDS[i], BYTES[i]),
-        Ask::Bytes => calls::bytes(NUMBERS[i], THREE[i]),
-        Ask::Take => calls::take(LENT[i], WIDE[i], PLACES[i]),
-        Ask::Store => calls::store(FIRST[i], SECOND[i], COUNTS[i], SPACES[i]),
+        Ask::Write => calls::write(HEADERS[i]),
+        Ask::Sample => calls::sample(WORDS[i]),
+        Ask::Bytes => calls::bytes(NUMBERS[i]),
+        Ask::Take => calls::take(PARTS[i]),
+        Ask::Store => calls::store(PAIRS[i]),
     }
 }
 

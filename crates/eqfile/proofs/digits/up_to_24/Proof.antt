@@ -1,5 +1,5 @@
 -- `digits::up_to_24` meets its contract: each return has the tests that led there. Assumes nothing.
-use mathlib.Core.Path.{_≡_, sym, ap, _∙_}
+use mathlib.Core.Path.{_≡_, sym, _∙_}
 use mathlib.Core.Bool.{true}
 use native.Mathlib.Omega.{arith}
 use borrow.Author.Tests.{not-true, not-false}
@@ -40,7 +40,7 @@ returns-3 : tie.Need-returns-3
 returns-3 c =
     let k = c .before .before in
     let a = k .before .before .before .before .args in
-    small (a .tens) (a .ones) (tens (k .before .before)) (c .wide .result) (ones k) (c .wide .ensures) (c .before .if3 .taken)
+    small (a .tens) (a .ones) (tens (k .before .before)) (c .wide .result) (ones k) (c .wide .ensures) (omega (arith, c .before .if3 .taken))
 
 returns-4 : tie.Need-returns-4
 returns-4 c =

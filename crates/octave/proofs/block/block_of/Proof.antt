@@ -9,17 +9,14 @@ use Rattle.answers.proofs.Branches.{judging, found-none}
 use Rattle.octave.proofs.block.block_of.Statement.{statement}
 use Rattle.octave.proofs.block.block_of.Tie as tie
 
+-- what the samples' run asks, from the checks that held; g is where the gains were judged
 equalise-requires : tie.Need-equalise-requires
 equalise-requires c κs =
     let g = c .before .before .before .before .before .before in
-    let s = g .before .before .before in
-    let gains = now (s .args .gains) in
-    record {
-      memory-kept = s .pre;
-      counted = g .before .before .if1 .left;
-      allowed = found-none (length gains) (firstOutside (pos 0) (pos largestGain) gains) (g .before .first-outside .result) (g .before .first-outside .ensures) (g .if2 .left);
-      alike = c .before .before .before .before .before .if3 .left;
-    }
+    let first = g .before .first-outside in
+    let gains = now (g .before .before .before .args .gains) in
+    let allowed = found-none (length gains) (firstOutside (pos 0) (pos largestGain) gains) (first .result) (first .ensures) (g .if2 .left) in
+    record { memory-kept = search needs depth 8; counted = search needs depth 8; allowed = allowed; alike = search needs depth 8 }
 
 pub block-of-spec : {M : Type 1} → statement M
 block-of-spec =

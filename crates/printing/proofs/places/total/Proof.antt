@@ -61,8 +61,7 @@ loop-less c = omega arith
 loop-again : tie.Need-loop-again Inv-loop μ-loop
 loop-again c =
     let at = c .before .before .before in
-    let s = now (at .before .args .s) in
-    (
+    let s = now (at .before .args .s) in (
       omega arith,
       at .loop .inv .1,
       c .added .ensures .1,
