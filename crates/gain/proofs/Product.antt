@@ -67,8 +67,8 @@ in-units m e k h =
 under-top : (n v d t u : ℕ) → 0 < u → v * u ≡ n * d → v < t * d → n < t * u
 under-top n v d t u p h l = lt-of-mul-lt-mul-right d (omega (arith, mul-lt-mul-of-pos-right l p))
 
-pub exact : (s : Bool) (m : ℕ) (e : ℤ) (k : ℕ) → T (fits binary32 (fin s m e)) → m * up e * 2 ^ k < 2 ^ 128 * down e
-    → HasValue (mul binary32 (fin s m e) (fin false 1 (pos k))) s (m * up e * 2 ^ k) (down e)
+pub exact : (s : Bool) (m : ℕ) (e : ℤ) (k : ℕ) → T (fits binary32 (fin s m e)) → m * up e * 2 ^ k < 2 ^ 128 * down e →
+    HasValue (mul binary32 (fin s m e) (fin false 1 (pos k))) s (m * up e * 2 ^ k) (down e)
 exact s zero e k f h =
     rw (mul-power s zero e k)
     (round-exact binary32 s (0 * up e * 2 ^ k) (down e) 0 0 (down-pos e) (pow-pos 24) (pow-pos 277) (simp zero-mul))

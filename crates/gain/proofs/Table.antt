@@ -11,6 +11,7 @@ use lib.IntN.{ℤ, pos, negsuc, negℤ, natAbs, _-ℤ_}
 use lib.Ieee.Fits.{and-l, and-r}
 use lib.ListN.{getD}
 use lib.Signed.{ltZ, _<ℤ_}
+use Rattle.answers.specs.Unit as unit
 use Rattle.gain.specs.Table.{gains, entry, FortiethRule}
 use Rattle.gain.proofs.Every.{at, every, at-half}
 
@@ -60,11 +61,11 @@ one-entry (negsuc k) g h p q =
 -- ---- order and size
 
 small-test : ℤ → Bool
-small-test n = leb (entry n) 16384
+small-test n = leb (entry n) unit.largestGain
 
-pub entry-small : (n : ℤ) → natAbs n ≤ 24 → entry n ≤ 16384
+pub entry-small : (n : ℤ) → natAbs n ≤ 24 → entry n ≤ unit.largestGain
 unfolding small-test entry
-entry-small n h = leb→le (entry n) 16384 (at-half small-test tt n h)
+entry-small n h = leb→le (entry n) unit.largestGain (at-half small-test tt n h)
 
 above-test : ℤ → ℤ → Bool
 above-test m n = not (ltZ m n) || ltb (entry m) (entry n)
@@ -90,23 +91,23 @@ increasing m n h k l =
 
 -- a · b is 4,096 · 4,096 within half of a + b, which is half a step on either gain
 abbrev pub NearUnity : ℕ → ℕ → Type 0
-NearUnity a b = (2 * (a * b) ≤ 2 * 4096 ^ 2 + (a + b)) × (2 * 4096 ^ 2 ≤ 2 * (a * b) + (a + b))
+NearUnity a b = (2 * (a * b) ≤ 2 * unit.unity ^ 2 + (a + b)) × (2 * unit.unity ^ 2 ≤ 2 * (a * b) + (a + b))
 
 unity-test : ℤ → Bool
 unity-test n =
     let a = entry n in
     let b = entry (negℤ n) in
-    leb (2 * (a * b)) (2 * 4096 ^ 2 + (a + b)) && leb (2 * 4096 ^ 2) (2 * (a * b) + (a + b))
+    leb (2 * (a * b)) (2 * unit.unity ^ 2 + (a + b)) && leb (2 * unit.unity ^ 2) (2 * (a * b) + (a + b))
 
 every-unity : T (every unity-test)
 unfolding unity-test entry
 every-unity = tt
 
-near : (a b : ℕ) → T (leb (2 * (a * b)) (2 * 4096 ^ 2 + (a + b)) && leb (2 * 4096 ^ 2) (2 * (a * b) + (a + b))) → NearUnity a b
+near : (a b : ℕ) → T (leb (2 * (a * b)) (2 * unit.unity ^ 2 + (a + b)) && leb (2 * unit.unity ^ 2) (2 * (a * b) + (a + b))) → NearUnity a b
 near a b t =
-    let upper = leb (2 * (a * b)) (2 * 4096 ^ 2 + (a + b)) in
-    let lower = leb (2 * 4096 ^ 2) (2 * (a * b) + (a + b)) in
-    (leb→le (2 * (a * b)) (2 * 4096 ^ 2 + (a + b)) (and-l upper lower t), leb→le (2 * 4096 ^ 2) (2 * (a * b) + (a + b)) (and-r upper lower t))
+    let upper = leb (2 * (a * b)) (2 * unit.unity ^ 2 + (a + b)) in
+    let lower = leb (2 * unit.unity ^ 2) (2 * (a * b) + (a + b)) in
+    (leb→le (2 * (a * b)) (2 * unit.unity ^ 2 + (a + b)) (and-l upper lower t), leb→le (2 * unit.unity ^ 2) (2 * (a * b) + (a + b)) (and-r upper lower t))
 
 -- the gains of n and of -n half decibels multiply to unity
 pub unity : (n : ℤ) → natAbs n ≤ 24 → NearUnity (entry n) (entry (negℤ n))
