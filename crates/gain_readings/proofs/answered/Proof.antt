@@ -9,7 +9,7 @@ use mir.Syntax.{w32}
 use mir.Val.{SFits, toZ, ofZ}
 use Rattle.gain.specs.declared.Gained.{Gained}
 use Rattle.gain.specs.declared.Gained.the-variants.{Gain}
-use Rattle.answers.specs.Answer.{Answer, accepted}
+use Rattle.answers.specs.Answer.{accepted}
 use Rattle.gain.specs.Answer.{answerOf}
 use Rattle.gain_readings.specs.Size.{sized}
 use Rattle.gain_readings.proofs.answered.Statement.{statement}
