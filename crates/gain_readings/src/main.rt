@@ -6,7 +6,9 @@ use printing::line;
 use printing::text;
 use printing::told;
 ghost use mathlib.Core.Path.{_≡_};
-ghost use Rattle.gain_readings.specs.Told.{shownAs};
+ghost use Rattle.gain.specs.Answer.{answerOf};
+ghost use Rattle.printing.specs.Told.{numbered};
+ghost use Rattle.gain_readings.specs.Size.{sized};
 
 // 0, 0.5, 1, 1.5, .. 12, as bit patterns: the half decibels.
 const HALVES: [u32; 25] = [
@@ -80,7 +82,7 @@ fn float(bits: u32) -> f32 {
 
 // A gain without its sign, or the number of the refusal.
 fn answered(answer: Gained) -> Answer
-    ensures { λ r. ⌜ r ≡ shownAs answer ⌝ }
+    ensures { λ r. ⌜ numbered r ≡ sized (answerOf answer) ⌝ }
 {
     match answer {
         Gained::Gain(gain) => Answer::Accepted(printing::magnitude(gain)),

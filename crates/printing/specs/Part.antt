@@ -4,6 +4,6 @@ use mathlib.Core.List.{List}
 use Prim.Native.Nat.{ℕ, _≤_, min}
 use lib.ListN.{length, take}
 
--- r places at the front of s, n if there are so many. The second and the third half follow from the first; lending that part asks for them.
+-- rule 13.11: r places at the front of s, n if there are so many; the second and the third half follow from the first, and lending that part asks for them
 abbrev pub Front : {A : Type 0} → ℕ → ℕ → List A → Type 0
 Front n r s = (r ≡ min n (length s)) × (r ≤ length s) × (r ≡ length (take r s))

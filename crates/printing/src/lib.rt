@@ -2,7 +2,8 @@
 // No contract can say what is written. A function that hands something over says what it is.
 pub mod places;
 
-ghost use Prim.Native.Nat.{min};
+use whole::counts::least;
+use whole::counts::wide;
 ghost use mathlib.Core.Path.{_≡_};
 ghost use lib.IntN.{natAbs};
 ghost use Rattle.printing.specs.Part.{Front};
@@ -56,17 +57,11 @@ pub fn signed_field(z: i32) {
     signed(z);
 }
 
-fn wide(x: u8) -> u64
-    ensures { λ r. ⌜ r ≡ x ⌝ }
-{
-    x as u64
-}
-
 // A space and two digits for each byte.
 pub fn hex(s: &[u8]) {
     text(b" ");
     for i in 0..s.len() {
-        io::print_hex(1, wide(s[i]), 2);
+        io::print_hex(1, wide(s[i]) as u64, 2);
     }
 }
 
@@ -88,12 +83,6 @@ pub fn told(answer: Answer) {
             field(n);
         }
     }
-}
-
-pub fn least(a: usize, b: usize) -> usize
-    ensures { λ r. ⌜ r ≡ min a b ⌝ }
-{
-    if a < b { a } else { b }
 }
 
 // How many of the first n bytes there are.

@@ -1,10 +1,10 @@
 // Lists of places: a part, a place that is set, how two differ, and a list on standard output.
 use crate::count;
 use crate::field;
-use crate::least;
 use crate::magnitude;
 use crate::signed_field;
 use crate::text;
+use whole::counts::least;
 ghost use Prim.Native.Nat.{_≤_, _<_, _^_, min};
 ghost use mathlib.Core.Path.{_≡_};
 ghost use lib.ListN.{length, set};

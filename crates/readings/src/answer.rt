@@ -6,7 +6,7 @@ use octave::memory::memory_length;
 use printing::Answer;
 ghost use mathlib.Core.Path.{_≡_};
 ghost use Rattle.octave.specs.Answer.{lengthAnswer, preparedAnswer, blockAnswer};
-ghost use Rattle.readings.specs.Told.{numbered};
+ghost use Rattle.printing.specs.Told.{numbered};
 
 pub(crate) fn length(answer: Length) -> Answer
     ensures { λ r. ⌜ numbered r ≡ lengthAnswer answer ⌝ }

@@ -1,5 +1,5 @@
-// The cases of 01 that are run: what the memory length, prepare and block answer at every edge, and courses of blocks at 2, 3, 8
-// and 10 bands. Tables of numbers, and what is asked about each. tests/readings.py works the same lines out from the page.
+// The cases that are run: what the memory length, prepare and block answer at every edge, and courses of blocks at 2, 3, 8
+// and 10 bands. Tables of numbers, and what is asked about each. tests/readings.py works the same lines out from the rules.
 mod answer;
 mod call;
 mod course;

@@ -1,25 +1,14 @@
-// Each answer of the library by its number, and a format by its bits.
+// Each answer of the library by its number.
 use printing::Answer;
-use wave::Format;
 use wave::Put;
 use wave::Stored;
 use wave::Taken;
 use wave::Written;
 ghost use mathlib.Core.Path.{_≡_};
-ghost use Rattle.wave.specs.Block.{takenAnswer, storedAnswer};
+ghost use Rattle.printing.specs.Told.{numbered};
 ghost use Rattle.wave.specs.Header.{writeAnswer};
 ghost use Rattle.wave.specs.Sample.{putAnswer};
-ghost use Rattle.wave.specs.Values.{bitsOf};
-ghost use Rattle.wave_readings.specs.Told.{numbered};
-
-pub(crate) fn bits(format: Format) -> u64
-    ensures { λ r. ⌜ r ≡ bitsOf format ⌝ }
-{
-    match format {
-        Format::Bits16 => 16,
-        Format::Bits24 => 24,
-    }
-}
+ghost use Rattle.wave.specs.Samples.{takenAnswer, storedAnswer};
 
 pub(crate) fn written(answer: Written) -> Answer
     ensures { λ r. ⌜ numbered r ≡ writeAnswer answer ⌝ }

@@ -91,7 +91,7 @@ pub(crate) fn bytes(z: Number) {
 }
 
 pub(crate) fn take_in(s: &[u8], format: Format, samples: &mut [i32]) {
-    field(answer::bits(format));
+    field(wave::bits(format) as u64);
     told(answer::taken(wave::bytes_to_samples(s, format, samples)));
     list(samples);
     line();

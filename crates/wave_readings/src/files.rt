@@ -1,5 +1,4 @@
 // The files that the arguments name: each is read, its first samples are taken, and its header is written again.
-use crate::answer::bits;
 use crate::calls::Heading;
 use crate::calls::take_in;
 use crate::calls::write;
@@ -7,13 +6,13 @@ use printing::Answer;
 use printing::count;
 use printing::field;
 use printing::front_bytes;
-use printing::least;
 use printing::line;
 use printing::places::front;
 use printing::text;
 use printing::told;
 use wave::Format;
 use wave::Reading;
+use whole::counts::least;
 
 fn samples(there: &[u8], format: Format, many: usize, bytes: usize) {
     let mut space = [77i32; 8];
@@ -26,7 +25,7 @@ fn samples(there: &[u8], format: Format, many: usize, bytes: usize) {
 // The first samples of the data that is there, eight at most.
 fn first_samples(there: &[u8], format: Format, length: usize) {
     let bytes = least(length, there.len());
-    if bits(format) == 16 {
+    if wave::bits(format) == 16 {
         samples(there, format, least(bytes / 2, 8), 2 * least(bytes / 2, 8));
     } else {
         samples(there, format, least(bytes / 3, 8), 3 * least(bytes / 3, 8));
@@ -35,7 +34,7 @@ fn first_samples(there: &[u8], format: Format, length: usize) {
 
 fn accepted(front: &[u8], rate: u32, format: Format, length: u32, start: usize) {
     field(rate as u64);
-    field(bits(format));
+    field(wave::bits(format) as u64);
     field(length as u64);
     count(start);
     line();

@@ -1,5 +1,5 @@
 // Runs the calls of `wave` on tables of cases at their edges and on the files that its arguments name, and writes what they answer, and
-// every byte or sample that was lent for them to write. tests/wave_readings.py works the same lines out from the page.
+// every byte or sample that was lent for them to write. tests/wave_readings.py works the same lines out from the rules.
 mod answer;
 mod calls;
 mod files;

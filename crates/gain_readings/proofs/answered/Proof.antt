@@ -9,13 +9,14 @@ use mir.Syntax.{w32}
 use mir.Val.{SFits, toZ, ofZ}
 use Rattle.gain.specs.declared.Gained.{Gained}
 use Rattle.gain.specs.declared.Gained.the-variants.{Gain}
-use Rattle.printing.specs.declared.Answer.the-variants.{Accepted}
-use Rattle.gain_readings.specs.Told.{shownAs}
+use Rattle.answers.specs.Answer.{accepted}
+use Rattle.gain.specs.Answer.{answerOf}
+use Rattle.gain_readings.specs.Size.{sized}
 use Rattle.gain_readings.proofs.answered.Statement.{statement}
 use Rattle.gain_readings.proofs.answered.Tie as tie
 
-gain-is : {r : ℕ} {z : ℤ} {a : Gained} → mag z < 2 ^ 31 → r ≡ natAbs (toZ w32 (ofZ w32 z)) → a ≡ Gain z → Accepted r ≡ shownAs a
-gain-is {r} {z} h e q = let f : SFits w32 z = record { sfits = h } in ap Accepted (e ∙ ap natAbs (toZ-ofZ f)) ∙ sym (ap shownAs q)
+gain-is : {r : ℕ} {z : ℤ} {a : Gained} → mag z < 2 ^ 31 → r ≡ natAbs (toZ w32 (ofZ w32 z)) → a ≡ Gain z → accepted r ≡ sized (answerOf a)
+gain-is {r} {z} h e q = let f : SFits w32 z = record { sfits = h } in ap accepted (e ∙ ap natAbs (toZ-ofZ f)) ∙ sym (ap (λ (g : Gained). sized (answerOf g)) q)
 
 enum-known-answer : tie.Need-enum-known-answer
 enum-known-answer c = search needs

@@ -28,6 +28,9 @@ shared-slice-read-wide c = omega arith
 wide-requires : tie.Need-wide-requires Inv-loop μ-loop
 wide-requires c κs = tt
 
+cast-print-hex : tie.Need-cast-print-hex Inv-loop μ-loop
+cast-print-hex c = record { fits = omega (arith, c .wide .ensures .1) }
+
 print-hex-requires : tie.Need-print-hex-requires Inv-loop μ-loop
 print-hex-requires c κs = tt
 
@@ -54,6 +57,7 @@ hex-spec =
     loop-holds
     shared-slice-read-wide
     wide-requires
+    cast-print-hex
     print-hex-requires
     add-i
     loop-less

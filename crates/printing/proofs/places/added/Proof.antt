@@ -1,12 +1,11 @@
 -- `places::added` meets its contract: a number below 2^32 by one up to 1,009 is far below 2^64. Assumes nothing.
-use mathlib.Core.Path.{_≡_, ap, _∙_}
+use mathlib.Core.Path.{ap, _∙_}
 use Prim.Native.Nat.{ℕ, _+_, _*_, _%_, _≤_, _<_, _^_}
 use native.Mathlib.Nat.{mul-le-mul}
 use native.Mathlib.Omega.{arith}
 use borrow.Author.Needs.{needs}
-use lib.IntN.{ℤ}
 use mir.Facts.{toZ-ofZ}
-use Rattle.printing.specs.Total.{code, add}
+use Rattle.printing.specs.Total.{code}
 use Rattle.printing.proofs.places.added.Statement.{statement}
 use Rattle.printing.proofs.places.added.Tie as tie
 

@@ -1,5 +1,4 @@
 -- `draw::noise` meets its contract: a number of 24 bits less 2^23 fits. Assumes nothing.
-use mathlib.Core.Path.{_≡_}
 use Prim.Native.Nat.{ℕ, _%_, _/_, _<_}
 use native.Mathlib.Decide.{decLt}
 use native.Mathlib.Omega.{arith}

@@ -1,7 +1,7 @@
 -- `answer::stored` meets its contract: each case by its number or its value. Assumes nothing.
 use mathlib.Core.Path.{sym, ap}
 use borrow.Author.Needs.{needs}
-use Rattle.wave.specs.Block.{storedAnswer}
+use Rattle.wave.specs.Samples.{storedAnswer}
 use Rattle.wave_readings.proofs.answer.stored.Statement.{statement}
 use Rattle.wave_readings.proofs.answer.stored.Tie as tie
 

@@ -1,7 +1,7 @@
 -- `answer::taken` meets its contract: each case by its number or its value. Assumes nothing.
 use mathlib.Core.Path.{sym, ap}
 use borrow.Author.Needs.{needs}
-use Rattle.wave.specs.Block.{takenAnswer}
+use Rattle.wave.specs.Samples.{takenAnswer}
 use Rattle.wave_readings.proofs.answer.taken.Statement.{statement}
 use Rattle.wave_readings.proofs.answer.taken.Tie as tie
 
