@@ -1,6 +1,6 @@
 #!/usr/bin/env bash
 # The C interface from outside: the archive is built, the minimal program is held to its stored output, and the archive is
-# held to models of the page. Prints the seed, and else only what fails. --long and --seed N are handed on.
+# held to models written from the rules. Prints the seed, and else only what fails. --long and --seed N are handed on.
 set -euo pipefail
 cd "$(dirname "${BASH_SOURCE[0]}")/.."
 source tests/x86.sh

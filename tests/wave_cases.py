@@ -1,5 +1,5 @@
 #!/usr/bin/env python3
-"""Writes the edge cases of the WAVE reader: small files, each a step to one side of what the page accepts.
+"""Writes the edge cases of the WAVE reader: small files, each a step to one side of what the rules accept.
 
     python3 tests/wave_cases.py crates/wave_readings/data
 """

@@ -52,7 +52,7 @@ void lengths(void)
         CHECK(places_around_same(memory), "%d bands", bands);
         places_free(memory);
     }
-    CHECK(oeq_memory_length(10) <= 46000 && oeq_memory_length(8) <= 8100, "the page's bounds");
+    CHECK(oeq_memory_length(10) <= 46000 && oeq_memory_length(8) <= 8100, "rule 5.3's bounds");
 }
 
 /* One of several kinds of signal. */

@@ -1,4 +1,4 @@
-/* The header reader against a walk written from the page, on built, damaged and random fronts; and the writer. */
+/* The header reader against a walk written from the rules, on built, damaged and random fronts; and the writer. */
 #include <string.h>
 #include "check.h"
 #include "octave_eq.h"

@@ -1,4 +1,4 @@
-/* The archive against models written from the page. Silent but for the seed; --long goes on for longer. */
+/* The archive against models written from the rules. Silent but for the seed; --long goes on for longer. */
 #include <string.h>
 #include <time.h>
 #include "check.h"

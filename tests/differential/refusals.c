@@ -1,4 +1,4 @@
-/* block with any faults at once: the first in the page's order is answered, and nothing lent has changed. */
+/* block with any faults at once: the first in rule 6.8's order is answered, and nothing lent has changed. */
 #include "check.h"
 #include "lent.h"
 #include "octave_eq.h"

@@ -1,1 +1,1 @@
-"""What the page says, in Python: the tree, the gain commands, WAVE files. Whole numbers and fractions only."""
+"""What the rules say, in Python (docs/RULES.md): the tree, the gain commands, WAVE files. Whole numbers and fractions only."""

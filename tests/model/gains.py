@@ -31,7 +31,7 @@ def pattern(number):
 
 
 def entry(n):
-    """The one g that the page's inequalities give to n half decibels, by fortieth powers."""
+    """The one g that rule 7.4 gives to n half decibels, by fortieth powers."""
     up, down = (10**n, 1) if n >= 0 else (1, 10**-n)
     found = [g for g in range(1, 16385) if (2 * g - 1) ** 40 * down <= 8192**40 * up < (2 * g + 1) ** 40 * down]
     assert len(found) == 1

@@ -1,4 +1,4 @@
-"""The block equaliser by the page's own formulas.
+"""The block equaliser by the formulas of rules 3 and 5.
 
 A memory is a list of places: the count, the position, then for each line from line M down to line 2 a ring of 9·2^(M-1) places,
 where sample n of a line stands at place n modulo the ring's length.
@@ -137,7 +137,7 @@ def outputs(M, gains, samples):
 
 
 def check_bench():
-    """01, Bench readings: the page's own numbers."""
+    """Rule 14.2: the bench readings."""
 
     def at(M, gains, samples, places):
         """The outputs at these places, fed with the samples and then zeros."""

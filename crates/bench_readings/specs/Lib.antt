@@ -1,3 +1,3 @@
--- The bench readings that 01 marks P.
+-- The bench readings marked P (rule 14.2).
 pub mod Reading
 pub mod Table

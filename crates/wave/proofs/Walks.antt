@@ -2,20 +2,19 @@
 -- steps that it is given are never spent.
 -- Assumes nothing.
 use mathlib.Core.Path.{_≡_, refl, sym, ap, _∙_, subst}
-use mathlib.Core.Bool.{true, false}
+use mathlib.Core.Bool.{true}
 use mathlib.Core.List.{List}
-use Prim.Native.Nat.{ℕ, zero, suc, _+_, _-_, _*_, _<_, _≤_}
+use Prim.Native.Nat.{ℕ, zero, suc, _+_, _-_, _*_, _≤_}
 use native.Mathlib.Omega.{arith}
 use lib.ListN.{length, take, drop, length-drop}
 use lib.Seq.{take-all}
 use lib.Dec.{eqb, leb}
-use borrow.Author.Tests.{leb-true, le-leb, lt-leb}
-use Rattle.answers.specs.Unit.{frontLength}
+use borrow.Author.Tests.{leb-true, le-leb}
 use Rattle.answers.specs.Answer.{Answer, refused}
 use Rattle.wave.specs.Bytes.{field, same}
 use Rattle.wave.specs.Names.{riff, wave, fmt, data′}
 use Rattle.wave.specs.Values.{right}
-use Rattle.wave.specs.Walk.{Found, Seen, nothing, sound, Step, ends, on, next, first, values, fmtChunk, chunk, follow, walk, judge, readOf}
+use Rattle.wave.specs.Walk.{Found, Seen, nothing, sound, Step, ends, on, next, first, values, fmtChunk, chunk, follow, walk, judge}
 use Rattle.wave.proofs.ByTest.{cond-case}
 use Rattle.wave.proofs.Chunks.{chunk-cut}
 
