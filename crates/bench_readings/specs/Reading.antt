@@ -42,5 +42,6 @@ pub record Row : Type 0 where
   pub at : ℕ
   pub value : Shown
 
+-- rule 14.1: a row whose value is a number
 abbrev pub row : Reading → ℕ → ℤ → Row
 row r n v = record { reading = r; at = n; value = number v }
