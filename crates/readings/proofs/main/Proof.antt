@@ -1,0 +1,62 @@
+-- `main` ends: the cases are counted. Assumes nothing.
+use Prim.Native.Nat.{_-_}
+use borrow.Author.Needs.{needs}
+use Rattle.readings.proofs.main.Statement.{statement}
+use Rattle.readings.proofs.main.Tie as tie
+
+abbrev Inv-loop : tie.InvT-loop
+Inv-loop memory₀ gains₀ input₀ output₀ cases i₀ memory gains input output i = Unit {0}
+
+abbrev μ-loop : tie.MeasureT-loop
+μ-loop memory₀ gains₀ input₀ output₀ cases i₀ memory gains input output i = cases - i
+
+places-requires : tie.Need-places-requires Inv-loop μ-loop
+places-requires c κs = tt
+
+places-requires-2 : tie.Need-places-requires-2 Inv-loop μ-loop
+places-requires-2 c κs = tt
+
+places-requires-3 : tie.Need-places-requires-3 Inv-loop μ-loop
+places-requires-3 c κs = tt
+
+places-requires-4 : tie.Need-places-requires-4 Inv-loop μ-loop
+places-requires-4 c κs = tt
+
+word-requires : tie.Need-word-requires Inv-loop μ-loop
+word-requires c κs = tt
+
+loop-holds : tie.Need-loop-holds Inv-loop μ-loop
+loop-holds c = tt
+
+one-requires : tie.Need-one-requires Inv-loop μ-loop
+one-requires c κs = tt
+
+add-i : tie.Need-add-i Inv-loop μ-loop
+add-i c = search needs
+
+loop-less : tie.Need-loop-less Inv-loop μ-loop
+loop-less c = search needs
+
+loop-again : tie.Need-loop-again Inv-loop μ-loop
+loop-again c = tt
+
+returns : tie.Need-returns Inv-loop μ-loop
+returns c = tt
+
+pub main-spec : {M : Type 1} → statement M
+main-spec =
+    tie.close
+    (tie.spec
+    Inv-loop
+    μ-loop
+    places-requires
+    places-requires-2
+    places-requires-3
+    places-requires-4
+    word-requires
+    loop-holds
+    one-requires
+    add-i
+    loop-less
+    loop-again
+    returns)
