@@ -1,6 +1,6 @@
 -- `main` ends: the cases are counted. Assumes nothing.
 use Prim.Native.Nat.{_-_}
-use borrow.Author.Needs.{needs}
+use native.Mathlib.Omega.{arith}
 use Rattle.readings.proofs.main.Statement.{statement}
 use Rattle.readings.proofs.main.Tie as tie
 
@@ -32,10 +32,10 @@ one-requires : tie.Need-one-requires Inv-loop μ-loop
 one-requires c κs = tt
 
 add-i : tie.Need-add-i Inv-loop μ-loop
-add-i c = search needs
+add-i c = omega arith
 
 loop-less : tie.Need-loop-less Inv-loop μ-loop
-loop-less c = search needs
+loop-less c = omega arith
 
 loop-again : tie.Need-loop-again Inv-loop μ-loop
 loop-again c = tt
