@@ -30,7 +30,7 @@ def compared(before, places):
 cases, lines = [], []
 LENGTH, PREPARE, BLOCK = 0, 1, 2
 MEMORY, GAINS, INPUT, OUTPUT = 3, 4, 5, 6
-lists = {name: [0] * 92162 for name in [MEMORY, GAINS, INPUT, OUTPUT]}
+lists = {MEMORY: [0] * 92162, GAINS: [0] * 10, INPUT: [0] * 4097, OUTPUT: [0] * 4097}
 
 
 def case(*numbers):

@@ -8,22 +8,13 @@ mod words;
 
 use fill::fill;
 use words::word;
-ghost use mathlib.Core.Path.{_≡_};
-ghost use lib.ListN.{length};
-
-// As many places as the layout would give to eleven bands. What is promised is the length, which lending a part asks for.
-fn places() -> [i32; 92162]
-    ensures { λ r. ⌜ 92162 ≡ length r ⌝ }
-{
-    [0i32; 92162]
-}
 
 // One case, on lists that are as the cases before it left them.
 fn one(
     memory: &mut [i32; 92162],
-    gains: &mut [i32; 92162],
-    input: &mut [i32; 92162],
-    output: &mut [i32; 92162],
+    gains: &mut [i32; 10],
+    input: &mut [i32; 4097],
+    output: &mut [i32; 4097],
 ) {
     let kept = *memory;
     let marked = *output;
@@ -38,11 +29,12 @@ fn one(
     }
 }
 
+// The memory has as many places as the layout would give to eleven bands; input and output have one more than a block may have.
 fn main() {
-    let mut memory = places();
-    let mut gains = places();
-    let mut input = places();
-    let mut output = places();
+    let mut memory = [0i32; 92162];
+    let mut gains = [0i32; 10];
+    let mut input = [0i32; 4097];
+    let mut output = [0i32; 4097];
     let cases = word();
     for i in 0..cases {
         one(&mut memory, &mut gains, &mut input, &mut output);

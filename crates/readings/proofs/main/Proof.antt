@@ -10,18 +10,6 @@ Inv-loop memory₀ gains₀ input₀ output₀ cases i₀ memory gains input out
 abbrev μ-loop : tie.MeasureT-loop
 μ-loop memory₀ gains₀ input₀ output₀ cases i₀ memory gains input output i = cases - i
 
-places-requires : tie.Need-places-requires Inv-loop μ-loop
-places-requires c κs = tt
-
-places-requires-2 : tie.Need-places-requires-2 Inv-loop μ-loop
-places-requires-2 c κs = tt
-
-places-requires-3 : tie.Need-places-requires-3 Inv-loop μ-loop
-places-requires-3 c κs = tt
-
-places-requires-4 : tie.Need-places-requires-4 Inv-loop μ-loop
-places-requires-4 c κs = tt
-
 word-requires : tie.Need-word-requires Inv-loop μ-loop
 word-requires c κs = tt
 
@@ -49,10 +37,6 @@ main-spec =
     (tie.spec
     Inv-loop
     μ-loop
-    places-requires
-    places-requires-2
-    places-requires-3
-    places-requires-4
     word-requires
     loop-holds
     one-requires
