@@ -1,4 +1,9 @@
-"""Prints the lines that the program readings has to write, worked out by the model."""
+"""The readings of the block equaliser: prints the lines that the program readings has to write, worked out by the model; with
+--cases, the cases as the program reads them: how many, and then the numbers of each, of 32 bits, the lowest byte first."""
+import struct
+import sys
+from itertools import groupby
+
 from model.tree import LEAST, MOST, block, check_bench, memory_length, prepare, prepared, ring_length
 from words import told
 
@@ -20,26 +25,96 @@ def compared(before, places):
     return [sum(x != y for x, y in zip(before, places)), *listed(places)]
 
 
+# ---- cases and lines
+
+cases, lines = [], []
+LENGTH, PREPARE, BLOCK = 0, 1, 2
+MEMORY, GAINS, INPUT, OUTPUT = 3, 4, 5, 6
+lists = {MEMORY: [0] * 92162, GAINS: [0] * 10, INPUT: [0] * 4097, OUTPUT: [0] * 4097}
+
+
+def case(*numbers):
+    """One case for the program."""
+    cases.append(numbers)
+
+
+def code(z):
+    """A place as the cases have it: from 0 on."""
+    return z + 2**31
+
+
+def line(*words):
+    """One line of the program's."""
+    lines.append(" ".join(map(str, words)))
+
+
+def drawn(state):
+    """The generator's next state."""
+    return (state * 1103515245 + 12345) % 2**31
+
+
+def counted(n):
+    """The next in counting; before 0 stands 2^31 - 1."""
+    return (n + 1) % 2**31
+
+
+def fill(name, start, end, base, step=0, divisor=1, span=1, after=counted, x=0):
+    """Places by a rule: of each number a part, so many steps from the base. Answers the last number."""
+    case(name, start, end, int(after is drawn), x, divisor - 1, span - 1, code(base), step % 2**32)
+    for i in range(start, end):
+        x = after(x)
+        lists[name][i] = (code(base) + x // divisor % span * step) % 2**32 - 2**31
+    return x
+
+
+def lend(name, wanted):
+    """The first places of a list: those that are not there already are filled."""
+    start = 0
+    for value, same in groupby(wanted):
+        end = start + len(list(same))
+        if lists[name][start:end] != wanted[start:end]:
+            fill(name, start, end, value)
+        start = end
+
+
 def show_length(M):
     """The memory length."""
-    print("length", M, *told(memory_length(M)))
+    case(LENGTH, code(M))
+    line("length", M, *told(memory_length(M)))
 
 
 def show_prepare(M, places):
     """Prepare on marked places."""
-    memory = [MARK] * places
+    before = [MARK] * places
+    lend(MEMORY, before)
+    case(PREPARE, code(M), places)
+    memory = list(before)
     answer = prepare(M, memory)
-    print("prepare", M, *told(answer), *compared([MARK] * places, memory))
+    lists[MEMORY][:places] = memory
+    line("prepare", M, *told(answer), *compared(before, memory))
 
 
-def show_block(memory, gains, samples, places, comparing=True):
-    """Block on a marked output."""
-    output, marked, before = [MARK] * places, [MARK] * places, list(memory)
-    print("block", len(memory), *listed(memory[:2]), *listed(gains), *listed(samples), places)
+def show_lent(*lengths):
+    """Block on the first places of the four lists, the output marked."""
+    lend(OUTPUT, [MARK] * lengths[3])
+    case(BLOCK, *lengths)
+    before = [lists[name][:n] for name, n in zip([MEMORY, GAINS, INPUT, OUTPUT], lengths)]
+    memory, gains, samples, output = map(list, before)
+    line("block", len(memory), *listed(memory[:2]), *listed(gains), *listed(samples), len(output))
     answer = block(memory, gains, samples, output)
-    lists = [*compared(before, memory), *compared(marked, output)] if comparing else [*listed(memory), *listed(output)]
-    print("", *told(answer), *lists)
+    lists[MEMORY][: len(memory)], lists[OUTPUT][: len(output)] = memory, output
+    line("", *told(answer), *compared(before[0], memory), *compared(before[3], output))
 
+
+def show_block(memory, gains, samples, places):
+    """Block on these lists and so many outputs."""
+    lend(MEMORY, memory)
+    lend(GAINS, gains)
+    lend(INPUT, samples)
+    show_lent(len(memory), len(gains), len(samples), places)
+
+
+# ---- each call at its edges
 
 BEFORE = [8388607, -8388608, 100000, -1, 7, 0, 16]
 BOTH = [4096, 4096]
@@ -112,59 +187,57 @@ def show_faults():
 
 # ---- courses of blocks
 
-LENGTHS = [1, 0, 7, 40, 500, 4096, 33, 4096, 4096]
+BLOCKS = [1, 0, 7, 40, 500, 4096, 33, 4096, 4096]
+END_TO_END = {"base": MOST, "step": LEAST - MOST, "span": 2}
 
 
-def drawn(state):
-    """The generator's next state."""
-    return (state * 1103515245 + 12345) % 2**31
+def impulse(n, new, state):
+    """100,000 at the start, and nothing after it."""
+    lend(INPUT, [100000 if i == 0 else 0 for i in range(n, n + new)])
 
 
-def loud(up):
-    """An end of the sample range."""
-    return MOST if up else LEAST
+def noise(n, new, state):
+    """Any sample, drawn."""
+    fill(INPUT, 0, new, LEAST, step=1, divisor=128, span=2**24, after=drawn, x=state)
 
 
-SIGNALS = {
-    "impulse": lambda n, state: 100000 if n == 0 else 0,
-    "noise": lambda n, state: state // 128 % 2**24 - 2**23,
-    "square": lambda n, state: loud(n // 37 % 2 == 0),
-    "telegraph": lambda n, state: loud(state // 2**30 % 2 == 0),
-}
+def square(n, new, state):
+    """37 samples at one end of the range, 37 at the other."""
+    fill(INPUT, 0, new, **END_TO_END, divisor=37, x=(n - 1) % 2**31)
 
 
-def course(M, name):
-    """Prepare, and then blocks with gains drawn for each."""
-    memory, n, state = [MARK] * memory_length(M)[1], 0, M
-    print("course", M, *told(prepare(M, memory)))
-    for new in LENGTHS:
-        gains, samples = [], []
-        for _ in range(M):
-            state = drawn(state)
-            gains.append(state // 8 % 16385)
+def telegraph(n, new, state):
+    """One end of the range or the other, drawn."""
+    fill(INPUT, 0, new, **END_TO_END, divisor=2**30, after=drawn, x=state)
+
+
+def course(M, signal):
+    """Prepare, and then blocks with gains drawn for each. The lengths go round the longest line twice."""
+    n, state = 0, M
+    show_prepare(M, memory_length(M)[1])
+    for new in BLOCKS:
+        state = fill(GAINS, 0, M, 0, step=1, divisor=8, span=16385, after=drawn, x=state)
+        signal(n, new, state)
+        show_lent(memory_length(M)[1], M, new, new)
+        n += new
         for _ in range(new):
             state = drawn(state)
-            samples.append(SIGNALS[name](n, state))
-            n += 1
-        show_block(memory, gains, samples, new, comparing=False)
 
 
 def any_places(M, position):
     """Signal places at the ends of 32 bits, and a gain for line 1 alone that the sample range holds."""
-    memory, state = [], M
-    for _ in range(memory_length(M)[1]):
-        state = drawn(state)
-        memory.append(2**31 - 1 if state // 2**30 % 2 == 0 else -(2**31))
-    memory[:2] = [M, position]
-    show_block(memory, [8] + [0] * (M - 1), [MOST] * 40, 40)
+    fill(MEMORY, 0, memory_length(M)[1], 2**31 - 1, step=1, divisor=2**30, span=2, after=drawn, x=M)
+    lend(MEMORY, [M, position])
+    lend(GAINS, [8] + [0] * (M - 1))
+    lend(INPUT, [MOST] * 40)
+    show_lent(memory_length(M)[1], M, 40, 40)
 
 
 def show_courses():
     """Every signal and any places, at 2, 3, 8 and 10 bands."""
-    for name in SIGNALS:
-        print(name)
+    for signal in [impulse, noise, square, telegraph]:
         for M in [2, 3, 8, 10]:
-            course(M, name)
+            course(M, signal)
     for M in [2, 3, 8, 10]:
         for position in [0, ring_length(M) - 1, ring_length(M)]:
             any_places(M, position)
@@ -176,3 +249,8 @@ if __name__ == "__main__":
     show_lengths()
     show_faults()
     show_courses()
+    if "--cases" in sys.argv:
+        numbers = [len(cases), *(number for numbers in cases for number in numbers)]
+        sys.stdout.buffer.write(struct.pack(f"<{len(numbers)}I", *numbers))
+    else:
+        print(*lines, sep="\n")

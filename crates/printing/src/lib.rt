@@ -22,14 +22,10 @@ pub fn line() {
     text(b"\n");
 }
 
-pub fn number(n: u64) {
-    io::print_decimal(1, n);
-}
-
 // A space and a number.
 pub fn field(n: u64) {
     text(b" ");
-    number(n);
+    io::print_decimal(1, n);
 }
 
 // A space and how many.
@@ -44,17 +40,13 @@ pub fn magnitude(z: i32) -> u64
     if z < 0 { (-1 - z) as u64 + 1 } else { z as u64 }
 }
 
-pub fn signed(z: i32) {
-    if z < 0 {
-        text(b"-");
-    }
-    number(magnitude(z));
-}
-
 // A space and a number with its sign.
 pub fn signed_field(z: i32) {
     text(b" ");
-    signed(z);
+    if z < 0 {
+        text(b"-");
+    }
+    io::print_decimal(1, magnitude(z));
 }
 
 // A space and two digits for each byte.

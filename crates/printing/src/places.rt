@@ -1,4 +1,4 @@
-// Lists of places: a part, a place that is set, how two differ, and a list on standard output.
+// Lists of places: a part, how two differ, and a list on standard output.
 use crate::count;
 use crate::field;
 use crate::magnitude;
@@ -7,7 +7,7 @@ use crate::text;
 use whole::counts::least;
 ghost use Prim.Native.Nat.{_≤_, _<_, _^_, min};
 ghost use mathlib.Core.Path.{_≡_};
-ghost use lib.ListN.{length, set};
+ghost use lib.ListN.{length};
 ghost use Rattle.printing.specs.Part.{Front};
 ghost use Rattle.printing.specs.Total.{code as Total·code, add as Total·add, totalFrom};
 
@@ -16,15 +16,6 @@ pub fn front(n: usize, s: &[i32]) -> usize
     ensures { λ r. ⌜ Front n r (now (s .entry)) ⌝ }
 {
     least(n, s.len())
-}
-
-// One place, if there is such a place.
-pub fn put(s: &mut [i32], at: usize, value: i32)
-    ensures { λ _. ⌜ now (s .exit) ≡ set (now (s .entry)) at value ⌝ }
-{
-    if at < s.len() {
-        s[at] = value;
-    }
 }
 
 fn one_if(differs: bool) -> usize
@@ -76,7 +67,7 @@ fn total(s: &[i32]) -> u64
     sum
 }
 
-pub fn fields(s: &[i32]) {
+fn fields(s: &[i32]) {
     for i in 0..s.len() {
         signed_field(s[i]);
     }

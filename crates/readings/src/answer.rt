@@ -2,7 +2,6 @@
 use octave::block::Blocked;
 use octave::memory::Length;
 use octave::memory::Prepared;
-use octave::memory::memory_length;
 use printing::Answer;
 ghost use mathlib.Core.Path.{_≡_};
 ghost use Rattle.octave.specs.Answer.{lengthAnswer, preparedAnswer, blockAnswer};
@@ -38,13 +37,5 @@ pub(crate) fn blocked(answer: Blocked) -> Answer
         Blocked::OutputLength => Answer::Refused(6),
         Blocked::TooLong => Answer::Refused(7),
         Blocked::Sample => Answer::Refused(8),
-    }
-}
-
-// The places of a memory; none for a band count that is refused.
-pub(crate) fn places(bands: i32) -> usize {
-    match length(memory_length(bands)) {
-        Answer::Accepted(n) => n as usize,
-        Answer::Refused(_) => 0,
     }
 }
