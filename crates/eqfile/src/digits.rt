@@ -4,7 +4,7 @@ ghost use Rattle.eqfile.specs.Argument.{isDigit, upTo24, digitsOf};
 
 pub(crate) enum Digits {
     // At most 24.
-    Value(u16),
+    Value(u8),
     Not,
 }
 
@@ -12,12 +12,6 @@ fn is_digit(b: u8) -> bool
     ensures { λ r. ⌜ r ≡ isDigit b ⌝ }
 {
     if b < b'0' { false } else { b <= b'9' }
-}
-
-fn wide(b: u8) -> u16
-    ensures { λ r. ⌜ r ≡ b ⌝ }
-{
-    b as u16
 }
 
 // The number of two digits, if it is at most 24.
@@ -32,7 +26,7 @@ fn up_to_24(tens: u8, ones: u8) -> Digits
     }
     let n = 10 * (tens - b'0') + (ones - b'0');
     if n <= 24 {
-        return Digits::Value(wide(n));
+        return Digits::Value(n);
     }
     Digits::Not
 }

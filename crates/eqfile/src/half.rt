@@ -9,7 +9,7 @@ ghost use Rattle.eqfile.specs.Argument.{placeOf, argumentOf};
 
 // The place of a half decibel in the gain table: n half decibels stand at n + 24.
 pub(crate) enum Place {
-    At(u16),
+    At(u8),
     Not,
 }
 

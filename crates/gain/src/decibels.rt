@@ -67,7 +67,7 @@ fn gain_at(i: usize) -> i32
 }
 
 // The half decibel of entry i, exactly: -12.0, -11.5, .. 12.0.
-pub fn half_decibel(i: u16) -> f32
+pub fn half_decibel(i: u8) -> f32
     ensures { λ r. ⌜ r ≡ halfDecibel i ⌝ }
 {
     (i as f32 - 24.0) * 0.5

@@ -1,5 +1,5 @@
 -- `digits::up_to_24` meets its contract: each return has the tests that led there. Assumes nothing.
-use mathlib.Core.Path.{_≡_, sym, _∙_}
+use mathlib.Core.Path.{_≡_, refl, sym, _∙_}
 use mathlib.Core.Bool.{true}
 use native.Mathlib.Omega.{arith}
 use borrow.Author.Tests.{not-true, not-false}
@@ -38,9 +38,9 @@ add-n c = omega (arith, digit (c .before .before .before .before .args .tens) (t
 
 returns-3 : tie.Need-returns-3
 returns-3 c =
-    let k = c .before .before in
+    let k = c .before in
     let a = k .before .before .before .before .args in
-    small (a .tens) (a .ones) (tens (k .before .before)) (c .wide .result) (ones k) (c .wide .ensures) (omega (arith, c .before .if3 .taken))
+    small (a .tens) (a .ones) (tens (k .before .before)) _ (ones k) refl (omega (arith, c .if3 .taken))
 
 returns-4 : tie.Need-returns-4
 returns-4 c =
@@ -51,4 +51,4 @@ returns-4 c =
 pub up-to-24-spec : {M : Type 1} → statement M
 up-to-24-spec =
     tie.close
-    (tie.spec (λ c κs. search needs) returns (λ c κs. search needs) returns-2 sub-n mul-n sub-n-2 add-n (λ c κs. search needs) returns-3 returns-4)
+    (tie.spec (λ c κs. search needs) returns (λ c κs. search needs) returns-2 sub-n mul-n sub-n-2 add-n returns-3 returns-4)

@@ -37,8 +37,8 @@ returns-4 c =
     sym (ap above (c .enum-told2 .given .1)) ∙
     plain (now (call .before .before .before .before .before .args .text)) (call .digits-of2 .result) (call .before .if2 .left) (call .digits-of2 .ensures)
 
-add-t15 : tie.Need-add-t15
-add-t15 c =
+add-t7 : tie.Need-add-t7
+add-t7 c =
     let call = c .before .before .before in
     omega (arith, value-small (now (call .before .before .before .before .before .args .text)) (c .before .n2 .given .0 .0) (sym (c .before .n2 .given .1) ∙ call .digits-of2 .ensures))
 
@@ -52,4 +52,4 @@ pub place-of-spec : {M : Type 1} → statement M
 place-of-spec =
     tie.close
     (tie.spec returns (λ c. search needs) (λ c. search needs) (λ c. search needs) (λ c. search needs) (λ c κs. search needs) (λ c. search needs)
-    (λ c. search needs) returns-2 sub-t13 returns-3 (λ c κs. search needs) (λ c. search needs) (λ c. search needs) returns-4 add-t15 returns-5)
+    (λ c. search needs) returns-2 sub-t13 returns-3 (λ c κs. search needs) (λ c. search needs) (λ c. search needs) returns-4 add-t7 returns-5)
