@@ -1,19 +1,8 @@
 -- The laws that the functions' proofs cite, by subject.
-pub mod Adding
-pub mod Taps
-pub mod Regions
 pub mod Differing
-pub mod Stepping
+pub mod Weighing
 pub mod Ranges
 pub mod Layouts
 pub mod Memories
 pub mod Running
 pub mod Blocking
-pub mod Rings
-pub mod Holds
-pub mod Samples
-pub mod Calls
-pub mod WholeHistory
-pub mod Demands
-pub mod ThrownOut
-pub mod RefusedBetween

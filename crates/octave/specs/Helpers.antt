@@ -2,56 +2,20 @@
 use mathlib.Core.Path.{_≡_}
 use mathlib.Core.Bool.{true}
 use mathlib.Core.List.{List}
-use Prim.Native.Nat.{ℕ, suc, _-_, _*_, _^_, _≤_, _<_}
+use Prim.Native.Nat.{ℕ, suc, _+_, _-_, _*_, _^_, _≤_, _<_}
 use lib.ListN.{length, getD}
-use lib.IntN.{ℤ, pos, negsuc, natAbs, _+ℤ_, _-ℤ_, _*ℤ_}
+use lib.IntN.{ℤ, pos, natAbs, _-ℤ_, _*ℤ_}
 use Rattle.answers.specs.Range.{allWithin}
 use Rattle.answers.specs.Unit.{largestGain}
-use Rattle.tree.specs.Prototype.{Prototype}
-use Rattle.octave.specs.Line.{lineSum}
-use Rattle.octave.specs.Step.{step}
-use Rattle.octave.specs.Run.{Out, Ran, answered}
+use Rattle.whole.specs.Sum.{sum}
+use Rattle.lines.specs.Cascade.{Ran}
+use Rattle.lines.specs.Rows.{rowPlaces, Shown, columns, Even}
 use Rattle.octave.specs.Memory.{bandsIn, accepts}
+use Rattle.octave.specs.Weighing.{outputs}
 
--- ---- a line
+-- ---- the gains
 
--- what a read of a line's taps asks: the position within the line, the taps within the line, the line within the places
-pub record Within (line : List ℤ) (size at L : ℕ) : Type 0 where
-  pub inside : at < size
-  pub reach : 18 * L ≤ size
-  pub some : 1 ≤ L
-  pub held : size ≤ length line
-  pub small : size ≤ 4608
-
--- what a line's sum answers: rule 5.7's sum, far within 64 bits for any places (rule 5.12)
-pub record Summed (p : Prototype) (line : List ℤ) (size at L : ℕ) (x r : ℤ) : Type 0 where
-  pub value : r ≡ lineSum p line size at L x
-  pub bounded : natAbs r ≤ 2 ^ 51
-
--- ---- the low-pass sum over eleven samples
-
--- c(i)·x(i) at i = 0, 2, 4, 6, 8, 9, 10, 12, 14, 16, 18; the other coefficients are 0
-abbrev pub eleven : ℤ → ℤ → ℤ → ℤ → ℤ → ℤ → ℤ → ℤ → ℤ → ℤ → ℤ → ℤ
-eleven x0 x2 x4 x6 x8 x9 x10 x12 x14 x16 x18 =
-    pos 0 +ℤ pos 313 *ℤ x0 +ℤ negsuc 1337 *ℤ x2 +ℤ pos 3593 *ℤ x4 +ℤ negsuc 8717 *ℤ x6 +ℤ pos 31158 *ℤ x8 +ℤ pos 50000 *ℤ x9 +ℤ pos 31158 *ℤ x10 +ℤ negsuc 8717 *ℤ x12 +ℤ pos 3593 *ℤ x14 +ℤ negsuc 1337 *ℤ x16 +ℤ pos 313 *ℤ x18
-
--- .. far within 64 bits (rule 5.12)
-pub record Weighed (x0 x2 x4 x6 x8 x9 x10 x12 x14 x16 x18 r : ℤ) : Type 0 where
-  pub value : r ≡ eleven x0 x2 x4 x6 x8 x9 x10 x12 x14 x16 x18
-  pub size : natAbs r ≤ 2 ^ 51
-
--- ---- the step
-
--- what the step asks: the position within the lines, the lines' size for the bands left, and just those lines
-pub record Region (p : Prototype) (bands size at L : ℕ) (lines : List ℤ) : Type 0 where
-  pub some : 1 ≤ bands
-  pub few : bands ≤ 10
-  pub inside : at < size
-  pub sized : size ≡ p .centre * (L * 2 ^ (bands - 1))
-  pub whole : length lines ≡ (bands - 1) * size
-  pub small : size ≤ 4608
-
--- .. and what a block asks of the gains: one for each band, none beyond 16,384
+-- what a block asks of the gains: one for each band, none beyond 16,384
 pub record Allowed (bands : ℕ) (gains : List ℤ) : Type 0 where
   pub counted : length gains ≡ bands
   pub range : (i : ℕ) → natAbs (getD gains i (pos 0)) ≤ 2 ^ 14
@@ -64,29 +28,25 @@ pub record Differ (bands : ℕ) (g : ℕ → ℤ) (differences : List ℤ) : Typ
 pub record Small (differences : List ℤ) : Type 0 where
   pub range : (i : ℕ) → natAbs (getD differences i (pos 0)) ≤ 2 ^ 15
 
--- what the step answers: the places afterwards, and r = Σ over m = 1..bands of (g(m) - g(m+1))·a(m), with a(m) the aligned sample of line m.
--- By rule 3.13 that is the gain sum less g(bands+1)·a(bands). |r| ≤ bands·2^46 for any places (rule 5.12).
-pub record StepDone (p : Prototype) (bands size at L : ℕ) (differences lines : List ℤ) (x : ℤ) (places : List ℤ) (r : ℤ) : Type 0 where
-  pub places-are : (g : ℕ → ℤ) → places ≡ step p bands size at L g lines x .places
-  pub sum-is : (g : ℕ → ℤ) → Differ bands g differences → r ≡ step p bands size at L g lines x .sum -ℤ g (suc bands) *ℤ step p bands size at L g lines x .aligned
+-- ---- the rows weighed
+
+-- the gain sum of sample i by differences (rule 3.13): line bands - k stands in row k. |r| ≤ bands·2^46 for any places (rule 5.12)
+pub record SumDone (bands i : ℕ) (matrix differences : List ℤ) (r : ℤ) : Type 0 where
+  pub value : r ≡ sum bands (λ k. getD differences (bands - 1 - k) (pos 0) *ℤ getD matrix (rowPlaces * k + i) (pos 0))
   pub bounded : natAbs r ≤ bands * 2 ^ 46
+
+-- for any gains g with these differences and g(bands+1) = 0, the outputs of the rows that the matrix shows
+pub record RowWeighed (bands : ℕ) (matrix differences outs : List ℤ) : Type 0 where
+  pub under : (g : ℕ → ℤ) (rows : List (List ℤ)) → Differ bands g differences → g (suc bands) ≡ pos 0 → length rows ≡ bands → Even (length outs) rows →
+      Shown (length outs) rows matrix → outs ≡ outputs (λ _. g) (columns rows)
 
 -- ---- the run
 
--- a sample's places and output
-pub record Answered (o : Out) (places : List ℤ) (sample : ℤ) : Type 0 where
-  pub places-are : places ≡ o .places
-  pub sample-is : sample ≡ o .sample
-
--- .. for any gains g with these differences and g(bands+1) = 0, so that the top line counts with g(bands) itself
-pub record AnsweredUnder (p : Prototype) (bands size at : ℕ) (differences lines : List ℤ) (x : ℤ) (places : List ℤ) (sample : ℤ) : Type 0 where
-  pub under : (g : ℕ → ℤ) → Differ bands g differences → g (suc bands) ≡ pos 0 → Answered (answered p bands size at g lines x) places sample
-
 -- the samples' places, position and outputs
-pub record RunDone (r : Ran) (places : List ℤ) (position : ℕ) (outputs : List ℤ) : Type 0 where
+pub record RunDone (r : Ran) (g : ℕ → ℤ) (places : List ℤ) (position : ℕ) (outs : List ℤ) : Type 0 where
   pub places-are : places ≡ r .places
   pub position-is : position ≡ r .position
-  pub outputs-are : outputs ≡ r .outputs
+  pub outputs-are : outs ≡ outputs (λ _. g) (r .aligned)
 
 -- ---- the block call
 

@@ -1,9 +1,6 @@
--- The machine on lists of places, and the calls.
-pub mod Line
-pub mod Step
-pub mod Run
+-- The memory, and the calls.
 pub mod Answer
 pub mod Memory
+pub mod Weighing
 pub mod Block
-pub mod History
 pub mod Helpers

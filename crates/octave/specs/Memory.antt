@@ -3,7 +3,7 @@ use mathlib.Core.Bool.{Bool, false, cond}
 use mathlib.Core.List.{List, [], _∷_}
 use Prim.Native.Nat.{ℕ, _+_, _-_, _*_, _^_}
 use lib.Dec.{eqb, ltb}
-use lib.ListN.{length, getD, replicate}
+use lib.ListN.{length, getD, drop, replicate}
 use lib.Signed.{ltZ}
 use lib.IntN.{ℤ, pos, natAbs}
 use Rattle.answers.specs.Checks.{Check, check, allHold, choose, Outcome, decide}
@@ -22,9 +22,27 @@ use Rattle.octave.specs.declared.memory.Kept.the-variants.{Bands, CountW
 abbrev pub lineLength : ℕ → ℕ
 lineLength M = published .centre * 2 ^ (M - 1)
 
+-- rule 5.2: what a memory holds: the count, the position, and behind them the lines
+pub record Held : Type 0 where
+  pub count : ℤ
+  pub position : ℤ
+  pub lines : List ℤ
+
+-- rule 5.2: the places before the lines
+abbrev pub headPlaces : ℕ
+headPlaces = 2
+
+-- rule 5.2: as a memory shows it; 0 where it has no place
+abbrev pub heldIn : List ℤ → Held
+heldIn memory = record { count = getD memory 0 (pos 0); position = getD memory 1 (pos 0); lines = drop headPlaces memory }
+
+-- rule 5.2: and the memory that shows it
+abbrev pub memoryOf : Held → List ℤ
+memoryOf h = h .count ∷ h .position ∷ h .lines
+
 -- rule 5.3: the count, the position, and the lines M down to 2
 abbrev pub memoryLength : ℕ → ℕ
-memoryLength M = 2 + (M - 1) * lineLength M
+memoryLength M = headPlaces + (M - 1) * lineLength M
 
 -- rule 1.3: 2 to 10 bands
 abbrev pub countAllowed : ℤ → Bool
@@ -36,7 +54,7 @@ memoryLengthOf bands = choose (check (countAllowed bands) place-count.BandCount 
 
 -- rule 5.5: the count, the position 0, and zeros
 abbrev pub prepared : ℕ → List ℤ
-prepared M = pos M ∷ pos 0 ∷ replicate ((M - 1) * lineLength M) (pos 0)
+prepared M = memoryOf (record { count = pos M; position = pos 0; lines = replicate ((M - 1) * lineLength M) (pos 0) })
 
 -- rule 6.8, prepare: its checks in order
 abbrev pub prepareChecks : ℤ → List ℤ → List (Check Prepared)
@@ -51,11 +69,7 @@ prepareOf bands memory =
 
 -- rule 5.2: the count that a memory holds; 0 where it has no place
 abbrev pub bandsIn : List ℤ → ℕ
-bandsIn memory = natAbs (getD memory 0 (pos 0))
-
--- rule 5.2: the position that a memory holds
-abbrev pub positionIn : List ℤ → ℤ
-positionIn memory = getD memory 1 (pos 0)
+bandsIn memory = natAbs (heldIn memory .count)
 
 -- rule 5.4: 0 ≤ position < places of a line
 abbrev pub positionWithin : ℕ → ℤ → Bool
@@ -64,9 +78,9 @@ positionWithin size at = cond (ltZ at (pos 0)) false (ltb (natAbs at) size)
 -- rule 5.4: what a lent memory is judged by, in order
 abbrev pub memoryChecks : List ℤ → List (Check Kept)
 memoryChecks memory =
-    check (countAllowed (getD memory 0 (pos 0))) CountWrong ∷
+    check (countAllowed (heldIn memory .count)) CountWrong ∷
     check (eqb (length memory) (memoryLength (bandsIn memory))) LengthWrong ∷
-    check (positionWithin (lineLength (bandsIn memory)) (positionIn memory)) PositionOutside ∷ []
+    check (positionWithin (lineLength (bandsIn memory)) (heldIn memory .position)) PositionOutside ∷ []
 
 -- rule 5.4: an accepted memory
 abbrev pub accepts : List ℤ → Bool

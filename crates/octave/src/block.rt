@@ -3,6 +3,8 @@ ghost use mathlib.Core.Path.{_≡_};
 ghost use Rattle.answers.specs.Checks.{Done};
 ghost use Rattle.octave.specs.Block.{equalised, blockOf};
 ghost use Rattle.octave.specs.Helpers.{KeptBands, Judged};
+use crate::layout::HEAD;
+use crate::layout::POSITION;
 use crate::layout::line_length;
 use crate::memory::Kept;
 use crate::memory::judge;
@@ -30,9 +32,17 @@ fn equalise(memory: &mut [i32], gains: &[i32], input: &[i32], output: &mut [i32]
     ensures { λ _. ⌜ (now (memory .exit), now (output .exit)) ≡ equalised (now (memory .entry)) (now (gains .entry)) (now (input .entry)) ⌝ }
 {
     let size = line_length(bands);
-    let from = memory[1] as usize;
-    let at = run(&mut memory[2..], size, from, bands, gains, input, output);
-    memory[1] = at as i32;
+    let from = memory[POSITION] as usize;
+    let at = run(
+        &mut memory[HEAD..],
+        size,
+        from,
+        bands,
+        gains,
+        input,
+        output,
+    );
+    memory[POSITION] = at as i32;
 }
 
 // The call on an accepted memory of `bands` bands. All is judged before anything is written.

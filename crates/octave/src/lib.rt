@@ -1,9 +1,7 @@
-// The block equaliser: line memory, prepare, the cascade step, block.
+// The calls: line memory, prepare, block.
 pub mod block;
-mod cascade;
 mod differences;
 mod layout;
-mod line;
-mod low;
 pub mod memory;
 mod run;
+mod weighing;

@@ -2,6 +2,8 @@
 ghost use mathlib.Core.Path.{_≡_};
 ghost use Rattle.answers.specs.Checks.{Done};
 ghost use Rattle.octave.specs.Memory.{memoryLengthOf, prepareOf, keptOf};
+use crate::layout::COUNT;
+use crate::layout::POSITION;
 use crate::layout::line_length;
 use crate::layout::whole_length;
 use answers::range::within;
@@ -52,7 +54,7 @@ pub fn prepare(bands: i32, memory: &mut [i32]) -> Prepared
         return Prepared::MemoryLength;
     }
     clear(memory);
-    memory[0] = bands;
+    memory[COUNT] = bands;
     Prepared::Delay(line_length(count) - 9)
 }
 
@@ -63,7 +65,7 @@ pub fn judge(memory: &[i32]) -> Kept
     if memory.len() == 0 {
         return Kept::CountWrong;
     }
-    let bands = memory[0];
+    let bands = memory[COUNT];
     if !within(FEWEST_BANDS, MOST_BANDS, bands) {
         return Kept::CountWrong;
     }
@@ -71,7 +73,7 @@ pub fn judge(memory: &[i32]) -> Kept
     if memory.len() != whole_length(count) {
         return Kept::LengthWrong;
     }
-    let at = memory[1];
+    let at = memory[POSITION];
     if at < 0 {
         return Kept::PositionOutside;
     }

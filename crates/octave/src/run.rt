@@ -1,40 +1,39 @@
-// A block's samples through the lines, one after the other.
+// A block's samples through the lines, row after row.
 ghost use mathlib.Core.Path.{_≡_};
-ghost use Prim.Native.Nat.{_≤_, _<_};
+ghost use Prim.Native.Nat.{_≤_, _<_, _+_, _-_};
 ghost use lib.ListN.{length};
 ghost use Rattle.tree.specs.Prototype.{published};
 ghost use Rattle.tree.specs.Signal.{gainOf};
-ghost use Rattle.octave.specs.Run.{next, run};
-ghost use Rattle.octave.specs.Helpers.{Region, Allowed, Small, AnsweredUnder, RunDone};
-use crate::cascade::step;
+ghost use Rattle.lines.specs.Cascade.{run};
+ghost use Rattle.lines.specs.Rows.{rowPlaces, wrapped};
+ghost use Rattle.lines.specs.Helpers.{Region};
+ghost use Rattle.octave.specs.Helpers.{Allowed, RunDone};
 use crate::differences::differences;
-use whole::limiting::limit_24;
-use whole::rounding::nearest_4096;
+use crate::weighing::weigh_rows;
+use lines::cascade::ROW;
+use lines::cascade::cascade;
+use whole::counts::least;
 
-// The place after `at` in the rings.
-fn next(size: usize, at: usize) -> usize
-    requires { ⌜ (at < size) × (size ≤ 4608) ⌝ }
-    ensures { λ r. ⌜ r ≡ next size at ⌝ }
+// The places of ten rows.
+const ROWS: usize = 320;
+
+// How many samples the next row has: not past the matrix, the block or the ring's end.
+fn row_length(size: usize, at: usize, left: usize) -> usize
+    requires { ⌜ (at < size) × (1 ≤ left) ⌝ }
+    ensures { λ r. ⌜ (1 ≤ r) × (r ≤ rowPlaces) × (r ≤ left) × (at + r ≤ size) ⌝ }
 {
-    if at + 1 < size {
-        return at + 1;
-    }
-    0
+    least(least(ROW, left), size - at)
 }
 
-// One sample: through the lines, then rounded once and limited once. The top line has no gain above its own: its difference is g(M).
-fn answer(
-    lines: &mut [i32],
-    size: usize,
-    at: usize,
-    bands: usize,
-    differences: &[i32; 10],
-    x: i32,
-) -> i32
-    requires { ⌜ Region published bands size at 1 (now lines) × Small (now differences) × (2 ≤ bands) ⌝ }
-    ensures { λ r. ⌜ AnsweredUnder published bands size at (now (differences .entry)) (now (lines .entry)) x (now (lines .exit)) r ⌝ }
+// The place n samples on, where a row ends: at the ring's end it is 0.
+fn wrapped(size: usize, at: usize) -> usize
+    requires { ⌜ at ≤ size ⌝ }
+    ensures { λ r. ⌜ r ≡ wrapped size at ⌝ }
 {
-    limit_24(nearest_4096(step(lines, size, at, 1, bands, differences, x)))
+    if at < size {
+        return at;
+    }
+    0
 }
 
 // Every sample of the block, from the position `from`; answers the position afterwards.
@@ -47,16 +46,20 @@ pub(crate) fn run(
     input: &[i32],
     output: &mut [i32],
 ) -> usize
-    requires { ⌜ Region published bands size from 1 (now lines) × Allowed bands (now gains) × (length (now output) ≡ length (now input)) × (2 ≤ bands) ⌝ }
-    ensures { λ r. ⌜ RunDone (run published bands size (gainOf (now (gains .entry))) (now (lines .entry)) from (now (input .entry))) (now (lines .exit)) r (now (output .exit)) ⌝ }
+    requires { ⌜ Region published bands size 1 (now lines) × (from < size) × Allowed bands (now gains) × (length (now output) ≡ length (now input)) ⌝ }
+    ensures { λ r. ⌜ RunDone (run published size (bands - 1) from (now (lines .entry)) (now (input .entry))) (gainOf (now (gains .entry))) (now (lines .exit)) r (now (output .exit)) ⌝ }
 {
     let differences = differences(gains);
+    let mut rows = [0i32; ROWS];
     let mut at = from;
     let mut i = 0;
     while i < input.len() {
-        output[i] = answer(lines, size, at, bands, &differences, input[i]);
-        at = next(size, at);
-        i += 1;
+        let n = row_length(size, at, input.len() - i);
+        let end = i + n;
+        cascade(lines, size, at, 1, bands, &input[i..end], &mut rows);
+        weigh_rows(&rows, bands, &differences, &mut output[i..end]);
+        at = wrapped(size, at + n);
+        i = end;
     }
     at
 }

@@ -1,0 +1,1 @@
+// The theorems of runs of calls: definitions (specs/) and the facts of them (proofs/). No code stands here.

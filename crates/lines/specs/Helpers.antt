@@ -1,0 +1,81 @@
+-- Bookkeeping: what the machine's functions ask and answer (rule 13.10). They are helpers of the calls, which have judged their input.
+use mathlib.Core.Path.{_≡_}
+use mathlib.Core.List.{List, _++_}
+use Prim.Native.Nat.{ℕ, _+_, _-_, _*_, _^_, _≤_, _<_}
+use lib.ListN.{length, take}
+use lib.IntN.{ℤ, pos, negsuc, natAbs, _+ℤ_, _*ℤ_}
+use Rattle.tree.specs.Prototype.{Prototype, taps}
+use Rattle.lines.specs.Line.{lineSum}
+use Rattle.lines.specs.Rows.{rowPlaces, Lined, Rowed, Shown}
+
+-- ---- a prototype that the rings hold: no tap beyond twice the centre, which is not 0
+pub record Centred (p : Prototype) : Type 0 where
+  pub reach : taps p ≤ 2 * p .centre + 1
+  pub some : 1 ≤ p .centre
+
+-- ---- a line
+
+-- what a read of a line's taps asks: the position within the line, the taps within the line, the line within the places
+pub record Within (p : Prototype) (line : List ℤ) (size at L : ℕ) : Type 0 where
+  pub inside : at < size
+  pub reach : 2 * (p .centre * L) ≤ size
+  pub some : 1 ≤ L
+  pub held : size ≤ length line
+  pub small : size ≤ 4608
+
+-- what a line's sum answers: rule 5.7's sum, far within 64 bits for any places (rule 5.12)
+pub record Summed (p : Prototype) (line : List ℤ) (size at L : ℕ) (x r : ℤ) : Type 0 where
+  pub value : r ≡ lineSum p line size at L x
+  pub bounded : natAbs r ≤ 2 ^ 51
+
+-- ---- the low-pass sum over eleven samples
+
+-- c(i)·x(i) at i = 0, 2, 4, 6, 8, 9, 10, 12, 14, 16, 18; the other coefficients are 0
+abbrev pub eleven : ℤ → ℤ → ℤ → ℤ → ℤ → ℤ → ℤ → ℤ → ℤ → ℤ → ℤ → ℤ
+eleven x0 x2 x4 x6 x8 x9 x10 x12 x14 x16 x18 =
+    pos 0 +ℤ pos 313 *ℤ x0 +ℤ negsuc 1337 *ℤ x2 +ℤ pos 3593 *ℤ x4 +ℤ negsuc 8717 *ℤ x6 +ℤ pos 31158 *ℤ x8 +ℤ pos 50000 *ℤ x9 +ℤ pos 31158 *ℤ x10 +ℤ negsuc 8717 *ℤ x12 +ℤ pos 3593 *ℤ x14 +ℤ negsuc 1337 *ℤ x16 +ℤ pos 313 *ℤ x18
+
+-- .. far within 64 bits (rule 5.12)
+pub record Weighed (x0 x2 x4 x6 x8 x9 x10 x12 x14 x16 x18 r : ℤ) : Type 0 where
+  pub value : r ≡ eleven x0 x2 x4 x6 x8 x9 x10 x12 x14 x16 x18
+  pub size : natAbs r ≤ 2 ^ 51
+
+-- ---- a row
+
+-- what a part of a row asks: the samples from `from` to `to` of a row at `at`, not past the ring's end
+pub record Part (p : Prototype) (lines : List ℤ) (size at L from to : ℕ) : Type 0 where
+  pub ordered : from ≤ to
+  pub before-end : at + to ≤ size
+  pub reach : 2 * (p .centre * L) ≤ size
+  pub some : 1 ≤ L
+  pub held : size ≤ length lines
+  pub small : size ≤ 4608
+
+-- what it leaves: the line run over the part, its low samples and its aligned samples behind those that stood there
+pub record LineDone (l : Lined) (from to : ℕ) (low₀ late₀ places low late : List ℤ) : Type 0 where
+  pub places-are : places ≡ l .places
+  pub low-is : take to low ≡ take from low₀ ++ l .low
+  pub late-is : take to late ≡ take from late₀ ++ l .late
+
+-- ---- the cascade
+
+-- just the lines of so many bands at stretch L, each of `size` places
+pub record Region (p : Prototype) (bands size L : ℕ) (lines : List ℤ) : Type 0 where
+  pub some : 1 ≤ bands
+  pub few : bands ≤ 10
+  pub stretch : 1 ≤ L
+  pub sized : size ≡ p .centre * (L * 2 ^ (bands - 1))
+  pub whole : length lines ≡ (bands - 1) * size
+  pub small : size ≤ 4608
+
+-- what a row through them asks: not longer than a row of the matrix, not past the ring's end, and a matrix with a row for each line
+pub record RowRegion (p : Prototype) (bands size at L : ℕ) (lines x matrix : List ℤ) : Type 0 where
+  pub region : Region p bands size L lines
+  pub short : length x ≤ rowPlaces
+  pub before-end : at + length x ≤ size
+  pub room : rowPlaces * bands ≤ length matrix
+
+-- what it leaves
+pub record RowsDone (r : Rowed) (n : ℕ) (places matrix : List ℤ) : Type 0 where
+  pub places-are : places ≡ r .places
+  pub shown : Shown n (r .rows) matrix
