@@ -5,3 +5,4 @@ pub mod Places
 pub mod Interchange
 pub mod Turns
 pub mod Columns
+pub mod Loops
