@@ -6,3 +6,6 @@ pub mod Interchange
 pub mod Turns
 pub mod Columns
 pub mod Loops
+pub mod Parts
+pub mod Regions
+pub mod Cascading

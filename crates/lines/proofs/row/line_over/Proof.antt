@@ -1,3 +1,9 @@
+-- `row::line_over` meets its contract. Assumes nothing.
+use native.Mathlib.Omega.{arith}
+use lib.ListN.{length}
+use denote.Ref.{now}
+use Rattle.tree.specs.Prototype.{published}
+use Rattle.lines.proofs.Parts.{second-part, parts}
 use borrow.Author.Needs.{needs}
 use Rattle.lines.proofs.row.line_over.Statement.{statement}
 use Rattle.lines.proofs.row.line_over.Tie as tie
@@ -17,7 +23,17 @@ around-requires c κs = search needs
 
 -- src/row.rt:91:5
 straight-requires : tie.Need-straight-requires
-straight-requires c κs = ?
+straight-requires c κs =
+    let around = c .before .before .before .before .before .before .around in
+    let w = c .before .before .before .before .before .before .before .before .before .before .wrapping in
+    let s = c .before .before .before .before .before .before .before .before .before .before .before in
+    let a = s .args in (
+      second-part published (a .size) (a .at) (a .l) (w .result) (length (now (a .x))) (now (a .lines)) (around .last .0) (w .ensures .0) (around .kept .0) (s .pre .0),
+      omega arith,
+      omega (arith, s .pre .1, around .kept .1 .1 .1 .1 .1 .1 .1 .0),
+      omega (arith, s .pre .2, around .kept .1 .1 .1 .1 .1 .1 .1 .1 .0),
+      w .ensures .1,
+    )
 
 -- src/row.rt:77:1
 same-length : tie.Need-same-length
@@ -33,7 +49,15 @@ same-length-3 c = search needs
 
 -- src/row.rt:77:1
 returns : tie.Need-returns
-returns c = ?
+returns c =
+    let straight = c .before .before .before .straight in
+    let around = c .before .before .before .before .before .before .before .before .before .before .around in
+    let w = c .before .before .before .before .before .before .before .before .before .before .before .before .before .before .wrapping in
+    let a = c .before .before .before .before .before .before .before .before .before .before .before .before .before .before .before .args in
+    parts published (a .size) (a .at) (a .l) (w .result) (now (a .x)) (now (a .lines)) (now (a .low)) (now (a .late))
+    (around .last .0) (around .last .1 .1 .1 .1 .1 .1 .1 .0) (around .last .1 .1 .1 .1 .1 .1 .1 .1 .0)
+    (straight .last .0) (straight .last .1 .1 .1 .1 .1 .1 .1 .0) (straight .last .1 .1 .1 .1 .1 .1 .1 .1 .0)
+    (w .ensures .0) (around .ensures) (straight .ensures)
 
 pub line-over-spec : {M : Type 1} → statement M
 line-over-spec =
