@@ -2,7 +2,7 @@
 use mathlib.Core.Path.{_≡_, refl, sym, ap, subst, _∙_}
 use mathlib.Core.List.{List}
 use Prim.Native.Nat.{ℕ, zero, suc, _+_, _-_, _*_, _≤_, _<_, _^_}
-use native.Mathlib.Nat.{mul-comm, add-mul}
+use native.Mathlib.Nat.{mul-comm, mul-le-mul, mul-le-mul-right}
 use native.Mathlib.Omega.{arith}
 use borrow.Author.Tests.{le-leb, lt-leb}
 use lib.Dec.{lit<, lit≤}
@@ -21,7 +21,7 @@ use Rattle.whole.specs.Limit.{limit}
 use Rattle.whole.proofs.Limit.{limit32-fits}
 use Rattle.whole.proofs.Rounded.{raw, nearest-fits}
 use Rattle.tree.specs.Prototype.{published, coefficient}
-use Rattle.lines.specs.Line.{place, tap, lineSum, lowValue, lateValue}
+use Rattle.lines.specs.Line.{place, ago, tap, lineSum, lowValue, lateValue}
 use Rattle.lines.specs.Helpers.{eleven, Weighed, Summed}
 
 -- ---- eleven products are the nineteen
@@ -67,33 +67,29 @@ summed line size at L x {r} d0 d2 d4 d6 d8 d9 d10 d12 d14 d16 d18 w =
       bounded = rw back (w .size);
     }
 
--- ---- the places of the taps
+-- ---- the taps
 
 pub read-new : (line : List ℤ) (size at L : ℕ) {x : ℤ} → SFits w32 x → Read x (tap line size at L x 0)
 unfolding tap
 read-new line size at L f = record { fits = f .sfits; value = refl }
 
--- where a sample stands that does not wrap
-place-back : (size at d : ℕ) → d ≤ at → at - d ≡ place size at d
-place-back size at d h = rw (le-leb d at h)
+-- the sample i·L back, as a leaf answers it
+pub read-tap : (line : List ℤ) (size at L : ℕ) (x : ℤ) (i : ℕ) (r : ℤ) → 1 ≤ i → r ≡ ago line size at (i * L) → mag r < 2 ^ 31 → Read r (tap line size at L x i)
+unfolding tap
+read-tap line size at L x zero r s e f = absurd (omega arith)
+read-tap line size at L x (suc i) r s e f = record { fits = f; value = e ∙ ap (ago line size at) (mul-comm (suc i) L) }
 
--- where 18·L ≤ at: the tap i·L back stands (18 - i)·L above the oldest
-pub straight-place : (size at L : ℕ) → 18 * L ≤ at → (i k : ℕ) → i + k ≡ 18 → at - 18 * L + k * L ≡ place size at (i * L)
-straight-place size at L h i k e =
-    let whole : 18 * L ≡ i * L + k * L = ap (λ (n : ℕ). n * L) (sym e) ∙ add-mul i k L in
-    let inside : i * L ≤ at = omega (arith, whole) in
-    (let q : at - 18 * L + k * L ≡ at - i * L = omega (arith, whole) in q) ∙ place-back size at (i * L) inside
+-- i·L is within 18·L, and not 0
+pub tap-inside : (i L : ℕ) → 1 ≤ i → i ≤ 18 → 1 ≤ L → (1 ≤ i * L) × (i * L ≤ 18 * L)
+tap-inside i L o m s = (mul-le-mul {n₁ = 1} {m₁ = 1} o s, mul-le-mul-right L m)
 
-pub oldest-place : (size at L : ℕ) → 18 * L ≤ at → at - 18 * L ≡ place size at (18 * L)
-oldest-place size at L h = place-back size at (18 * L) h
+module _ (line : List ℤ) (size at d : ℕ) where
+  -- where it stands before the position, and around the end
+  pub tap-back : d ≤ at → SFits w32 (getD line (at - d) (pos 0)) → raw w32 (getD line (at - d) (pos 0)) ≡ ago line size at d
+  tap-back h f = toZ-ofZ f ∙ rw (le-leb d at h)
 
-module _ (line : List ℤ) (size at L : ℕ) (x : ℤ) where
-  -- at the place of the sample i taps back
-  pub read-place : (i k : ℕ) → 1 ≤ i → k ≡ place size at (i * L) → mag (getD line k (pos 0)) < 2 ^ 31 → Read (getD line k (pos 0)) (tap line size at L x i)
-  unfolding tap
-  read-place zero k s e f = absurd (omega arith)
-  read-place (suc i) k s e f =
-      record { fits = f; value = ap (λ (j : ℕ). getD line j (pos 0)) (e ∙ ap (place size at) (mul-comm (suc i) L)) }
+  pub tap-round : at < d → SFits w32 (getD line (at + size - d) (pos 0)) → raw w32 (getD line (at + size - d) (pos 0)) ≡ ago line size at d
+  tap-round h f = toZ-ofZ f ∙ rw (lt-leb d at h)
 
 -- ---- from the sum to the line's new value
 
