@@ -7,3 +7,7 @@ pub mod Samples
 pub mod Weighed
 pub mod Accepted
 pub mod Calls
+pub mod WholeHistory
+pub mod Demands
+pub mod ThrownOut
+pub mod RefusedBetween
