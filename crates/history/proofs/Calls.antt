@@ -49,7 +49,7 @@ module _ (p : Prototype) (M : ℕ) where
     pub state : State x (n + length input) memory
 
   -- samples through the lines of such a memory, under any gains of each sample
-  samples-keep : Centred p → (x : Signal) (n : ℕ) (m : List ℤ) (input : List ℤ) → 1 ≤ M → ((k : ℕ) → Free p x (M - 1) 0 k) → (s : State x n m) →
+  samples-keep : Centred p → (x : Signal) (n : ℕ) (m input : List ℤ) → 1 ≤ M → ((k : ℕ) → Free p x (M - 1) 0 k) → (s : State x n m) →
       ((i : ℕ) → i < length input → getD input i (pos 0) ≡ x (n + i)) → (h g : ℕ → ℕ → ℤ) → ((i : ℕ) → h i ≡ g (n + i)) →
       (let r = run p ring (M - 1) (s .at) (s .lines) input in
       Called x n g input (memoryOf (record { count = pos M; position = pos (r .position); lines = r .places })) (outputs h (r .aligned)))
@@ -105,8 +105,9 @@ centred : Centred published
 centred = record { reach = omega arith; some = omega arith }
 
 -- for any gains g of each sample that are the call's
-pub call-keeps : (M : ℕ) (x : Signal) (n : ℕ) (m : List ℤ) (c : Call) → 2 ≤ M → ((k : ℕ) → Free published x (M - 1) 0 k) → State published M x n m →
-    blockAnswer (called m c .result) ≡ accepted (length (c .input)) → ((i : ℕ) → i < length (c .input) → getD (c .input) i (pos 0) ≡ x (n + i)) →
+pub call-keeps : (M : ℕ) (x : Signal) (n : ℕ) (m : List ℤ) (c : Call) → 2 ≤ M → ((k : ℕ) → Free published x (M - 1) 0 k) →
+    State published M x n m → blockAnswer (called m c .result) ≡ accepted (length (c .input)) →
+    ((i : ℕ) → i < length (c .input) → getD (c .input) i (pos 0) ≡ x (n + i)) →
     (g : ℕ → ℕ → ℤ) → ((i : ℕ) → n ≤ i → i < n + length (c .input) → (j : ℕ) → gainOf (c .gains) j ≡ g i j) →
     Called published M x n g (c .input) (called m c .lent .0) (called m c .lent .1)
 call-keeps M x n m c l free s a e g agree =
@@ -114,8 +115,10 @@ call-keeps M x n m c l free s a e g agree =
     let input = c .input in
     let k = samples-keep published M centred x n m input (omega arith) free s e (λ _. gainOf gains) (λ _. gainOf gains) (λ i. refl) in
     let r = run published (lineLength M) (M - 1) (s .at) (s .lines) input in
-    let is : called m c .lent ≡ (memoryOf (record { count = pos M; position = pos (r .position); lines = r .places }), outputs (λ _. gainOf gains) (r .aligned)) =
-    ap (λ (o : Outcome Blocked (List ℤ × List ℤ)). o .lent) (accepted-ran m gains input (c .before) (length input) a .is) ∙ ap (λ (q : List ℤ). equalised q gains input) (s .memory-is) in
+    let after = memoryOf (record { count = pos M; position = pos (r .position); lines = r .places }) in
+    let is : called m c .lent ≡ (after, outputs (λ _. gainOf gains) (r .aligned)) =
+    ap (λ (o : Outcome Blocked (List ℤ × List ℤ)). o .lent) (accepted-ran m gains input (c .before) (length input) a .is) ∙
+    ap (λ (q : List ℤ). equalised q gains input) (s .memory-is) in
     subst (λ (t : List ℤ × List ℤ). Called published M x n g input (t .0) (t .1)) (sym is)
     (record {
       outputs-are = k .outputs-are ∙ from-ext n (length input) (λ i u v. output-ext published M (λ _. gainOf gains) g x i (agree i u v));

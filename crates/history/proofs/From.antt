@@ -11,7 +11,8 @@ use Rattle.history.specs.History.{from}
 pub from-ext : (n k : ℕ) {f g : ℕ → ℤ} → ((i : ℕ) → n ≤ i → i < n + k → f i ≡ g i) → from n k f ≡ from n k g
 unfolding from
 from-ext n zero e = refl
-from-ext n (suc k) e = ap₂ (λ (u : ℤ) (v : List ℤ). u ∷ v) (e n (omega arith) (omega arith)) (from-ext (n + 1) k (λ i l h. e i (omega arith) (omega arith)))
+from-ext n (suc k) e =
+    ap₂ (λ (u : ℤ) (v : List ℤ). u ∷ v) (e n (omega arith) (omega arith)) (from-ext (n + 1) k (λ i l h. e i (omega arith) (omega arith)))
 
 pub from-append : (n a b : ℕ) (f : ℕ → ℤ) → from n (a + b) f ≡ from n a f ++ from (n + a) b f
 unfolding from

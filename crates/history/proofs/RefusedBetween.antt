@@ -29,7 +29,9 @@ use Rattle.history.proofs.Demands.{written-near}
 
 -- an accepted call answers its block length
 accepted-length : (m : List ℤ) (c : Call) → isAccepted m c ≡ true → blockAnswer (called m c .result) ≡ accepted (length (c .input))
-accepted-length m c e = ap (λ (o : Outcome Blocked (List ℤ × List ℤ)). blockAnswer (o .result)) (unnumbered-ran m (c .gains) (c .input) (c .before) (eqb-true (numberIn (blockAnswer (called m c .result))) 0 e) .is)
+accepted-length m c e =
+    ap (λ (o : Outcome Blocked (List ℤ × List ℤ)). blockAnswer (o .result))
+    (unnumbered-ran m (c .gains) (c .input) (c .before) (eqb-true (numberIn (blockAnswer (called m c .result))) 0 e) .is)
 
 -- a refused call leaves the memory
 refused-memory : (m : List ℤ) (c : Call) → isAccepted m c ≡ false → afterCall m c ≡ m

@@ -1,6 +1,6 @@
 -- Lines in their region: what the first line's reads ask, the region of the lines behind it, and that samples keep it. Over any prototype p.
 -- Assumes nothing.
-use mathlib.Core.Path.{_≡_, refl, sym, ap, ap₂, _∙_}
+use mathlib.Core.Path.{_≡_, sym, ap, ap₂, _∙_}
 use mathlib.Core.List.{List, [], _∷_}
 use Prim.Native.Nat.{ℕ, zero, suc, _+_, _-_, _*_, _^_, _≤_, _<_}
 use native.Mathlib.Nat.{pow-succ', mul-le-mul-left, mul-le-mul-right, mul-sub, mul-one}
@@ -12,7 +12,7 @@ use lib.IntN.{ℤ}
 use Rattle.tree.specs.Prototype.{Prototype}
 use Rattle.tree.specs.Forms.{treeDelay}
 use Rattle.lines.specs.Line.{next, lowValue}
-use Rattle.lines.specs.Cascade.{Ran, step, run}
+use Rattle.lines.specs.Cascade.{step, run}
 use Rattle.lines.specs.Helpers.{Within, Region}
 use Rattle.history.proofs.Rings.{next-inside}
 
@@ -41,7 +41,8 @@ module _ (p : Prototype) (size : ℕ) where
   pub delay-is : (k L : ℕ) (lines : List ℤ) → Region p (suc (suc k)) size L lines → size - p .centre * L ≡ treeDelay p (suc (suc k)) L
   delay-is k L lines r =
       let whole = 2 ^ (suc (suc k) - 1) in
-      sym (ap (λ (j : ℕ). p .centre * j) (mul-sub L whole 1 ∙ ap (λ (j : ℕ). L * whole - j) (mul-one L)) ∙ mul-sub (p .centre) (L * whole) L ∙ ap (λ (j : ℕ). j - p .centre * L) (sym (r .sized)))
+      ap (λ (j : ℕ). j - p .centre * L) (r .sized) ∙ sym (mul-sub (p .centre) (L * whole) L) ∙
+      ap (λ (j : ℕ). p .centre * j) (sym (mul-sub L whole 1 ∙ ap (λ (j : ℕ). L * whole - j) (mul-one L)))
 
   -- ---- the lines behind it
 
@@ -63,11 +64,13 @@ module _ (p : Prototype) (size : ℕ) where
   unfolding step
   step-length zero L at lines x e = e
   step-length (suc k) L at lines x e =
-      length-append (take size (set lines at x)) (step p size k (2 * L) at (drop size lines) (lowValue p lines size at L x) .places) ∙
-      ap₂ _+_ (length-take-le size (set lines at x) (simp length-set (omega arith))) (step-length k (2 * L) at (drop size lines) (lowValue p lines size at L x) (simp length-drop (omega arith))) ∙
+      let low = lowValue p lines size at L x in
+      length-append (take size (set lines at x)) (step p size k (2 * L) at (drop size lines) low .places) ∙
+      ap₂ _+_ (length-take-le size (set lines at x) (simp length-set (omega arith))) (step-length k (2 * L) at (drop size lines) low (simp length-drop (omega arith))) ∙
       omega arith
 
-  pub step-region : (k L at : ℕ) (lines : List ℤ) (x : ℤ) → Region p (suc k) size L lines → Region p (suc k) size L (step p size k L at lines x .places)
+  pub step-region : (k L at : ℕ) (lines : List ℤ) (x : ℤ) → Region p (suc k) size L lines →
+      Region p (suc k) size L (step p size k L at lines x .places)
   step-region k L at lines x r =
       let same = ap (λ (j : ℕ). j * size) (less-one k) in
       record {

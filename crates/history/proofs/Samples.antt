@@ -26,8 +26,8 @@ module _ (p : Prototype) (is : Centred p) (x : Signal) (k size : ℕ) where
     aligned-are : step p size k 1 at lines y .aligned ≡ alignedAt p x k 0 n
     holds : Holds p x k 0 size (next size at) (step p size k 1 at lines y .places) (suc n)
 
-  one-sample : (at n : ℕ) (lines : List ℤ) {y : ℤ} → y ≡ x n → at < size → Region p (suc k) size 1 lines → Free p x k 0 n → Holds p x k 0 size at lines n →
-      One at n lines y
+  one-sample : (at n : ℕ) (lines : List ℤ) {y : ℤ} → y ≡ x n → at < size → Region p (suc k) size 1 lines → Free p x k 0 n →
+      Holds p x k 0 size at lines n → One at n lines y
   unfolding level
   one-sample at n lines e i r f h =
       let q = step-keeps p is x k 0 size at lines n i r f h in
@@ -42,8 +42,8 @@ module _ (p : Prototype) (is : Centred p) (x : Signal) (k size : ℕ) where
     pub region : Region p (suc k) size 1 (r .places)
     pub holds : Holds p x k 0 size (r .position) (r .places) (n + c)
 
-  pub run-keeps : ((n : ℕ) → Free p x k 0 n) → (xs lines : List ℤ) (at n : ℕ) → at < size → Region p (suc k) size 1 lines → Holds p x k 0 size at lines n →
-      ((i : ℕ) → i < length xs → getD xs i (pos 0) ≡ x (n + i)) → After n (length xs) (run p size k at lines xs)
+  pub run-keeps : ((n : ℕ) → Free p x k 0 n) → (xs lines : List ℤ) (at n : ℕ) → at < size → Region p (suc k) size 1 lines →
+      Holds p x k 0 size at lines n → ((i : ℕ) → i < length xs → getD xs i (pos 0) ≡ x (n + i)) → After n (length xs) (run p size k at lines xs)
   unfolding run from
   run-keeps free [] lines at n i r h e =
       record { aligned-are = refl; inside = i; region = r; holds = subst (λ (j : ℕ). Holds p x k 0 size at lines j) (sym (add-zero n)) h }

@@ -2,7 +2,7 @@
 -- Assumes nothing.
 use mathlib.Core.Path.{_≡_, refl, sym, ap, ap₂, subst, _∙_}
 use mathlib.Core.List.{List, [], _∷_}
-use Prim.Native.Nat.{ℕ, zero, suc, _+_, _*_, _^_, _≤_, _<_}
+use Prim.Native.Nat.{ℕ, zero, suc, _+_, _*_, _^_, _<_}
 use native.Mathlib.Nat.{pow-succ', mul-zero, add-zero}
 use native.Mathlib.Omega.{arith}
 use lib.ListN.{length, getD}
@@ -25,7 +25,8 @@ use Rattle.history.proofs.Samples.{run-keeps}
 -- ---- one sample
 
 -- a line on top of others, the first of which shows b
-one-more : (g : ℕ → ℤ) (a b : ℤ) (below rest : List ℤ) → below ≡ b ∷ rest → bandSum g (a ∷ below) ≡ bandSum g below +ℤ g (suc (length below)) *ℤ (a -ℤ b)
+one-more : (g : ℕ → ℤ) (a b : ℤ) (below rest : List ℤ) → below ≡ b ∷ rest →
+    bandSum g (a ∷ below) ≡ bandSum g below +ℤ g (suc (length below)) *ℤ (a -ℤ b)
 unfolding bandSum
 one-more g a b below rest e = subst (λ (l : List ℤ). bandSum g (a ∷ l) ≡ bandSum g l +ℤ g (suc (length l)) *ℤ (a -ℤ b)) (sym e) refl
 
@@ -53,16 +54,16 @@ module _ (p : Prototype) (x : Signal) where
   band-sum-is g (suc k) j n =
       let s = level p (suc j) x in
       let a = back (level p j x) n (treeDelay p (suc (suc k)) (2 ^ j)) in
-      let below = alignedAt p x k (suc j) n in
-      let double : 2 ^ suc j ≡ 2 * 2 ^ j = pow-succ' 2 j in
-      one-more g a (back s n (treeDelay p (suc k) (2 ^ suc j))) below (rest k (suc j) n) (first-is k (suc j) n) ∙
-      ap₂ (λ (u : ℤ) (m : ℕ). u +ℤ g (suc m) *ℤ (a -ℤ back s n (treeDelay p (suc k) (2 ^ suc j)))) (band-sum-is g k (suc j) n) (aligned-length k (suc j) n) ∙
-      ap (λ (L : ℕ). treeSum p (suc k) L s g n +ℤ g (suc (suc k)) *ℤ (a -ℤ back s n (treeDelay p (suc k) L))) double
+      let b = back s n (treeDelay p (suc k) (2 ^ suc j)) in
+      one-more g a b (alignedAt p x k (suc j) n) (rest k (suc j) n) (first-is k (suc j) n) ∙
+      ap₂ (λ (u : ℤ) (m : ℕ). u +ℤ g (suc m) *ℤ (a -ℤ b)) (band-sum-is g k (suc j) n) (aligned-length k (suc j) n) ∙
+      ap (λ (L : ℕ). treeSum p (suc k) L s g n +ℤ g (suc (suc k)) *ℤ (a -ℤ back s n (treeDelay p (suc k) L))) (pow-succ' 2 j)
 
 -- ---- the outputs
 
 -- gains h of a block's samples that are the gains g from sample n on
-outputs-from : (c n : ℕ) (h g : ℕ → ℕ → ℤ) (f : ℕ → List ℤ) → ((i : ℕ) → h i ≡ g (n + i)) → outputs h (from n c f) ≡ from n c (λ i. outOf (bandSum (g i) (f i)))
+outputs-from : (c n : ℕ) (h g : ℕ → ℕ → ℤ) (f : ℕ → List ℤ) → ((i : ℕ) → h i ≡ g (n + i)) →
+    outputs h (from n c f) ≡ from n c (λ i. outOf (bandSum (g i) (f i)))
 unfolding outputs from
 outputs-from zero n h g f e = refl
 outputs-from (suc c) n h g f e =
@@ -75,7 +76,8 @@ unfolding output
 out-is p k g x n = ap outOf (sym (recursive-form p (suc k) g x n (omega arith)))
 
 -- the output at n depends only on the gains of sample n
-pub output-ext : (p : Prototype) (M : ℕ) (g h : ℕ → ℕ → ℤ) (x : Signal) (n : ℕ) → ((m : ℕ) → g n m ≡ h n m) → output p M g x n ≡ output p M h x n
+pub output-ext : (p : Prototype) (M : ℕ) (g h : ℕ → ℕ → ℤ) (x : Signal) (n : ℕ) → ((m : ℕ) → g n m ≡ h n m) →
+    output p M g x n ≡ output p M h x n
 unfolding output gainSum
 output-ext p M g h x n e = ap outOf (sum-ext M (λ i _. ap (λ (z : ℤ). z *ℤ heldBack p M (line p M x) (suc i) n) (e (suc i))))
 

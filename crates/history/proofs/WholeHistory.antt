@@ -3,14 +3,14 @@
 use mathlib.Core.Path.{_≡_, refl, sym, ap, ap₂, subst, _∙_}
 use mathlib.Core.Bool.{cond}
 use mathlib.Core.List.{List, [], _∷_, _++_}
-use Prim.Native.Nat.{ℕ, zero, suc, _+_, _-_, _≤_, _<_}
-use native.Mathlib.Nat.{add-zero, zero-add, add-assoc, suc-add, sub-zero}
+use Prim.Native.Nat.{ℕ, _+_, _-_, _≤_, _<_}
+use native.Mathlib.Nat.{add-zero, zero-add, add-assoc, sub-zero}
 use native.Mathlib.Omega.{arith}
 use borrow.Author.Tests.{lt-ltb, le-ltb}
 use lib.Dec.{eqb}
 use lib.ListN.{length, getD, length-append, List·getD-append}
 use lib.Seq.{getD-append-add}
-use lib.IntN.{ℤ, pos, _*ℤ_}
+use lib.IntN.{ℤ, pos}
 use Rattle.answers.specs.Answer.{Answer, accepted, numberIn}
 use Rattle.tree.specs.Prototype.{published}
 use Rattle.tree.specs.Signal.{Signal, signalOf, gainOf}
@@ -51,8 +51,8 @@ unfolding played
 played-accepted m c cs a =
     ap (λ (t : Answer ℕ). cond (eqb (numberIn t) 0) (called m c .lent .1 ++ played (afterCall m c) cs .output) (played (afterCall m c) cs .output)) a
 
-calls-keep : (M : ℕ) (x : Signal) → 2 ≤ M → ((k : ℕ) → Free published x (M - 1) 0 k) → (cs : List Call) (m : List ℤ) (n : ℕ) → State published M x n m → AllAccepted m cs →
-    ((i : ℕ) → i < length (joined cs) → getD (joined cs) i (pos 0) ≡ x (n + i)) → Continued M x n cs (played m cs)
+calls-keep : (M : ℕ) (x : Signal) → 2 ≤ M → ((k : ℕ) → Free published x (M - 1) 0 k) → (cs : List Call) (m : List ℤ) (n : ℕ) →
+    State published M x n m → AllAccepted m cs → ((i : ℕ) → i < length (joined cs) → getD (joined cs) i (pos 0) ≡ x (n + i)) → Continued M x n cs (played m cs)
 unfolding played AllAccepted joined from
 calls-keep M x l free [] m n s a e =
     record { outputs-are = refl; state = subst (λ (k : ℕ). State published M x k m) (sym (add-zero n)) s }
@@ -70,12 +70,14 @@ calls-keep M x l free (c ∷ cs) m n s a e =
     let first : Called published M x n G (c .input) m' (called m c .lent .1) =
     call-keeps M x n m c l free s (a .0) here G (λ i p q j. sym (carried-here c cs (i - n) j (omega arith))) in
     let rest : Continued M x (n + N) cs (played m' cs) = calls-keep M x l free cs m' (n + N) (first .state) (a .1) later in
+    let rest-gains : (i j : ℕ) → N ≤ i - n → carried cs (i - (n + N)) j ≡ G i j =
+    λ i j h. sym (carried-later c cs (i - n) j h ∙ ap (λ (k : ℕ). carried cs k j) (same-rest i n N)) in
     record {
       outputs-are =
           played-accepted m c cs (a .0) ∙
           ap₂ (λ (u v : List ℤ). u ++ v)
           (first .outputs-are)
-          (rest .outputs-are ∙ from-ext (n + N) R (λ i p q. output-ext published M (λ k. carried cs (k - (n + N))) G x i (λ j. sym (carried-later c cs (i - n) j (omega arith) ∙ ap (λ (k : ℕ). carried cs k j) (same-rest i n N))))) ∙
+          (rest .outputs-are ∙ from-ext (n + N) R (λ i p q. output-ext published M (λ k. carried cs (k - (n + N))) G x i (λ j. rest-gains i j (omega arith)))) ∙
           sym (from-append n N R F) ∙ ap (λ (k : ℕ). from n k F) (sym all);
       state = subst (λ (k : ℕ). State published M x k (played m' cs .memory)) (add-assoc n N R ∙ ap (λ (k : ℕ). n + k) (sym all)) (rest .state);
     }
@@ -114,7 +116,8 @@ pub cutting-alike : (M : ℕ) → 2 ≤ M → M ≤ 10 → (cs ds : List Call) �
     State published M (signalOf (joined ds)) (length (joined ds)) (played (prepared M) ds .memory)
 cutting-alike M l h cs ds a b e g = (
   whole-history M l h cs a ∙
-      from-ext 0 (length (joined cs)) (λ i _ q. output-ext published M (carried cs) (carried ds) (signalOf (joined cs)) i (λ m. g i m (omega (arith, zero-add (length (joined cs)))))) ∙
+      from-ext 0 (length (joined cs))
+      (λ i _ q. output-ext published M (carried cs) (carried ds) (signalOf (joined cs)) i (λ m. g i m (omega (arith, zero-add (length (joined cs)))))) ∙
       ap (λ (xs : List ℤ). from 0 (length xs) (output published M (carried ds) (signalOf xs))) e ∙ sym (whole-history M l h ds b),
   subst (λ (xs : List ℤ). State published M (signalOf xs) (length xs) (played (prepared M) cs .memory)) e (memory-holds M l h cs a),
   memory-holds M l h ds b,
