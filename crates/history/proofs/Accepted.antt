@@ -24,7 +24,7 @@ use Rattle.octave.specs.Answer.{blockAnswer}
 use Rattle.octave.specs.Block.{blockChecks, equalised, blockOf}
 use Rattle.octave.proofs.Ranges.{within-parts}
 use Rattle.history.specs.History.{Call, afterCall, AllAccepted, joined}
-use Rattle.history.proofs.Holds.{Unlimited, Free}
+use Rattle.history.proofs.Holds.{Unlimited, Free, free-of}
 
 -- ---- an accepted call
 
@@ -53,7 +53,8 @@ module _ (m gains input before : List ℤ) where
       let after = equalised m gains input in
       let r = Written (length input) in
       let held : allHold cs ≡ true =
-      unnumbered-holds blockAnswer cs r (all-refuse m gains input before) (sym (ap (λ (q : Blocked). numberIn (blockAnswer q)) (decided (m, before) after r cs)) ∙ e) in
+      unnumbered-holds blockAnswer cs r (all-refuse m gains input before)
+      (sym (ap (λ (q : Blocked). numberIn (blockAnswer q)) (decided (m, before) after r cs)) ∙ e) in
       record { is = all-accept (m, before) after r cs held; gains-allowed = gains-held held; in-range = input-held held }
 
   pub accepted-ran : (k : ℕ) → blockAnswer (blockOf m gains input before .result) ≡ accepted k → RanIt m gains input before
@@ -86,7 +87,6 @@ samples-small m (c ∷ cs) a k =
     (all-small (c .input) (accepted-ran m (c .gains) (c .input) (c .before) (length (c .input)) (a .0) .in-range))
     (samples-small (afterCall m c) cs (a .1)) k
 
-pub free-always : (x : Signal) → ((k : ℕ) → natAbs (x k) ≤ largestSample) → (k j n : ℕ) → k + j ≤ 9 → Free published x k j n
-unfolding Free Unlimited
-free-always x small zero j n h = tt
-free-always x small (suc k) j n h = (published-low-pass-never-limited x n (λ i _. small i) j (omega arith), free-always x small k (suc j) n (omega arith))
+pub free-always : (x : Signal) → ((k : ℕ) → natAbs (x k) ≤ largestSample) → (k n : ℕ) → k ≤ 9 → Free published x k 0 n
+unfolding Unlimited
+free-always x small k n h = free-of published x k 0 n (λ i l. published-low-pass-never-limited x n (λ j _. small j) i (omega arith))

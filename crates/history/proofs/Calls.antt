@@ -24,7 +24,7 @@ use Rattle.history.specs.History.{Call, called, from}
 use Rattle.history.proofs.Holds.{Holds, Free, holds-none}
 use Rattle.history.proofs.From.{from-ext}
 use Rattle.history.proofs.Samples.{run-keeps}
-use Rattle.history.proofs.Weighed.{outputs-are, output-ext}
+use Rattle.history.proofs.Weighed.{output-ext, run-outputs}
 use Rattle.history.proofs.Accepted.{accepted-ran}
 
 -- ---- a memory that holds a history
@@ -49,18 +49,18 @@ module _ (p : Prototype) (M : ℕ) where
     pub state : State x (n + length input) memory
 
   -- samples through the lines of such a memory, under any gains of each sample
-  samples-keep : Centred p → (x : Signal) (n : ℕ) (m input : List ℤ) → 1 ≤ M → ((k : ℕ) → Free p x (M - 1) 0 k) → (s : State x n m) →
-      ((i : ℕ) → i < length input → getD input i (pos 0) ≡ x (n + i)) → (h g : ℕ → ℕ → ℤ) → ((i : ℕ) → h i ≡ g (n + i)) →
+  pub samples-keep : Centred p → (x : Signal) (n : ℕ) (m input : List ℤ) → 1 ≤ M → ((k : ℕ) → Free p x (M - 1) 0 k) → (s : State x n m) →
+      ((i : ℕ) → i < length input → getD input i (pos 0) ≡ x (n + i)) → (g : ℕ → ℕ → ℤ) →
       (let r = run p ring (M - 1) (s .at) (s .lines) input in
-      Called x n g input (memoryOf (record { count = pos M; position = pos (r .position); lines = r .places })) (outputs h (r .aligned)))
-  samples-keep is x n m input l free s e h g agree =
+      Called x n g input (memoryOf (record { count = pos M; position = pos (r .position); lines = r .places })) (outputs (λ i. g (n + i)) (r .aligned)))
+  samples-keep is x n m input l free s e g =
       let whole : suc (M - 1) ≡ M = omega arith in
       let r = run p ring (M - 1) (s .at) (s .lines) input in
       let region : Region p (suc (M - 1)) ring 1 (s .lines) = subst (λ (b : ℕ). Region p b ring 1 (s .lines)) (sym whole) (s .region) in
       let k = run-keeps p is x (M - 1) ring free input (s .lines) (s .at) n (s .inside) region (s .holds) e in
       record {
         outputs-are =
-            ap (outputs h) (k .aligned-are) ∙ outputs-are p x (M - 1) (length input) n h g agree ∙
+            run-outputs p is x (M - 1) ring free input (s .lines) (s .at) n (s .inside) region (s .holds) e g ∙
             ap (λ (b : ℕ). from n (length input) (output p b g x)) whole;
         state =
             record {
@@ -113,7 +113,7 @@ pub call-keeps : (M : ℕ) (x : Signal) (n : ℕ) (m : List ℤ) (c : Call) → 
 call-keeps M x n m c l free s a e g agree =
     let gains = c .gains in
     let input = c .input in
-    let k = samples-keep published M centred x n m input (omega arith) free s e (λ _. gainOf gains) (λ _. gainOf gains) (λ i. refl) in
+    let k = samples-keep published M centred x n m input (omega arith) free s e (λ _. gainOf gains) in
     let r = run published (lineLength M) (M - 1) (s .at) (s .lines) input in
     let after = memoryOf (record { count = pos M; position = pos (r .position); lines = r .places }) in
     let is : called m c .lent ≡ (after, outputs (λ _. gainOf gains) (r .aligned)) =

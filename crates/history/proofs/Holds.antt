@@ -22,8 +22,9 @@ use Rattle.lines.specs.Line.{next, tap, lineSum, lowValue, lateValue}
 use Rattle.lines.specs.Cascade.{Stepped, step}
 use Rattle.lines.specs.Helpers.{Centred, Within, Region}
 use Rattle.lines.proofs.Places.{tap-within}
+use Rattle.lines.proofs.Regions.{behind-it}
 use Rattle.history.proofs.Rings.{Shows, shows-next, shows-none}
-use Rattle.history.proofs.Regions.{within, delay-is, region-below}
+use Rattle.history.proofs.Regions.{within, delay-is}
 
 module _ (p : Prototype) where
   -- where the 32-bit limit does not act, the new value is the low-pass
@@ -45,6 +46,12 @@ module _ (p : Prototype) where
     unfoldable pub alignedAt : ℕ → ℕ → ℕ → List ℤ
     alignedAt zero j n = level p j x n ∷ []
     alignedAt (suc k) j n = back (level p j x) n (treeDelay p (suc (suc k)) (2 ^ j)) ∷ alignedAt k (suc j) n
+
+    -- .. where none of the levels is
+    pub free-of : (k j n : ℕ) → ((i : ℕ) → i < k + j → Unlimited (2 ^ i) (level p i x) n) → Free k j n
+    unfolding Free
+    free-of zero j n u = tt
+    free-of (suc k) j n u = (u j (omega arith), free-of k (suc j) n (λ i h. u i (omega arith)))
 
     -- zeros hold the empty history
     pub holds-none : (k j size : ℕ) (lines : List ℤ) → ((i : ℕ) → getD lines i (pos 0) ≡ pos 0) → Holds k j size 0 lines 0
@@ -88,7 +95,7 @@ module _ (p : Prototype) (is : Centred p) where
         let s = level p j x in
         let w : Within p lines size at (2 ^ j) = within p size k at (2 ^ j) lines i r in
         let below = step p size k (2 * 2 ^ j) at (drop size lines) (lowValue p lines size at (2 ^ j) (s n)) in
-        let r' : Region p (suc k) size (2 ^ suc j) (drop size lines) = rw (pow-succ' 2 j) (region-below p size k (2 ^ j) lines r) in
+        let r' : Region p (suc k) size (2 ^ suc j) (drop size lines) = rw (pow-succ' 2 j) (behind-it p size (2 ^ j) lines k r) in
         let q = step-keeps k (suc j) size at (drop size lines) n i r' (f .1) (h .1) in
         let same : below ≡ step p size k (2 ^ suc j) at (drop size lines) (level p (suc j) x n) =
         ap₂ (λ (L : ℕ) (v : ℤ). step p size k L at (drop size lines) v) (sym (pow-succ' 2 j)) (low-value-is lines size at (2 ^ j) s n w (h .0) (f .0)) in

@@ -83,5 +83,6 @@ module _ (M : ℕ) (least : 2 ≤ M) (most : M ≤ 10) (cs : List Call) where
   pub near-of-any : (n : ℕ) → n < length (joined taken) →
       natAbs (pos (unity * commonScale M) *ℤ written M cs n -ℤ exact M taken n) ≤ 2048 * commonScale M + slack published M (carried taken) n
   near-of-any n inside =
-      subst (λ (p : Played). natAbs (pos (unity * commonScale M) *ℤ getD (p .output) n (pos 0) -ℤ exact M taken n) ≤ 2048 * commonScale M + slack published M (carried taken) n)
+      subst
+      (λ (p : Played). natAbs (pos (unity * commonScale M) *ℤ getD (p .output) n (pos 0) -ℤ exact M taken n) ≤ 2048 * commonScale M + slack published M (carried taken) n)
       (sym (refused-between (prepared M) cs)) (written-near M least most taken (all-accepted (prepared M) cs) n inside)

@@ -1,11 +1,10 @@
--- Lines in their region: what the first line's reads ask, the region of the lines behind it, and that samples keep it. Over any prototype p.
+-- Lines in their region: what the first line's reads ask, the tree's delay, and that samples keep the region. Over any prototype p.
 -- Assumes nothing.
 use mathlib.Core.Path.{_≡_, sym, ap, ap₂, _∙_}
 use mathlib.Core.List.{List, [], _∷_}
-use Prim.Native.Nat.{ℕ, zero, suc, _+_, _-_, _*_, _^_, _≤_, _<_}
-use native.Mathlib.Nat.{pow-succ', mul-le-mul-left, mul-le-mul-right, mul-sub, mul-one}
+use Prim.Native.Nat.{ℕ, zero, suc, _+_, _-_, _*_, _^_, _<_}
+use native.Mathlib.Nat.{mul-sub, mul-one}
 use native.Mathlib.Omega.{arith}
-use lib.Pow.{pow-mono}
 use lib.ListN.{length, take, drop, set, length-append, length-drop, length-set}
 use lib.Seq.{length-take-le}
 use lib.IntN.{ℤ}
@@ -14,28 +13,15 @@ use Rattle.tree.specs.Forms.{treeDelay}
 use Rattle.lines.specs.Line.{next, lowValue}
 use Rattle.lines.specs.Cascade.{step, run}
 use Rattle.lines.specs.Helpers.{Within, Region}
+use Rattle.lines.proofs.Regions.{reach-of, held-of, region-same}
 use Rattle.history.proofs.Rings.{next-inside}
-
-less-one : (k : ℕ) → suc k - 1 ≡ k
-less-one k = omega arith
 
 module _ (p : Prototype) (size : ℕ) where
   -- ---- the first line
 
-  twice : (k L : ℕ) (lines : List ℤ) → Region p (suc (suc k)) size L lines → 2 * (p .centre * L) ≤ size
-  twice k L lines r =
-      let two : L * 2 ≤ L * 2 ^ (suc (suc k) - 1) = mul-le-mul-left L (pow-mono {i = 1} {j = suc (suc k) - 1} (omega arith)) in
-      omega (arith, r .sized, mul-le-mul-left (p .centre) two)
-
   pub within : (k at L : ℕ) (lines : List ℤ) → at < size → Region p (suc (suc k)) size L lines → Within p lines size at L
   within k at L lines h r =
-      record {
-        inside = h;
-        reach = twice k L lines r;
-        some = r .stretch;
-        held = omega (arith, r .whole, mul-le-mul-right {m = 1} {n = suc (suc k) - 1} size (omega arith));
-        small = r .small;
-      }
+      record { inside = h; reach = reach-of p size L lines k r; some = r .stretch; held = held-of p size L lines k r; small = r .small }
 
   -- the tree's delay is how far back the aligned sample stands: all of the ring but D·L
   pub delay-is : (k L : ℕ) (lines : List ℤ) → Region p (suc (suc k)) size L lines → size - p .centre * L ≡ treeDelay p (suc (suc k)) L
@@ -43,20 +29,6 @@ module _ (p : Prototype) (size : ℕ) where
       let whole = 2 ^ (suc (suc k) - 1) in
       ap (λ (j : ℕ). j - p .centre * L) (r .sized) ∙ sym (mul-sub (p .centre) (L * whole) L) ∙
       ap (λ (j : ℕ). p .centre * j) (sym (mul-sub L whole 1 ∙ ap (λ (j : ℕ). L * whole - j) (mul-one L)))
-
-  -- ---- the lines behind it
-
-  pub region-below : (k L : ℕ) (lines : List ℤ) → Region p (suc (suc k)) size L lines → Region p (suc k) size (2 * L) (drop size lines)
-  region-below k L lines r =
-      let doubled : L * 2 ^ (suc (suc k) - 1) ≡ 2 * L * 2 ^ (suc k - 1) = rw (less-one (suc k), less-one k, pow-succ' 2 k) (omega arith) in
-      record {
-        some = omega arith;
-        few = omega (arith, r .few);
-        stretch = omega (arith, r .stretch);
-        sized = r .sized ∙ ap (λ (j : ℕ). p .centre * j) doubled;
-        whole = rw (length-drop size lines, r .whole, less-one (suc k), less-one k) (omega arith);
-        small = r .small;
-      }
 
   -- ---- samples keep the number of places, and the position in the ring
 
@@ -66,21 +38,16 @@ module _ (p : Prototype) (size : ℕ) where
   step-length (suc k) L at lines x e =
       let low = lowValue p lines size at L x in
       length-append (take size (set lines at x)) (step p size k (2 * L) at (drop size lines) low .places) ∙
-      ap₂ _+_ (length-take-le size (set lines at x) (simp length-set (omega arith))) (step-length k (2 * L) at (drop size lines) low (simp length-drop (omega arith))) ∙
+      ap₂ _+_ (length-take-le size (set lines at x) (simp length-set (omega arith)))
+      (step-length k (2 * L) at (drop size lines) low (simp length-drop (omega arith))) ∙
       omega arith
 
   pub step-region : (k L at : ℕ) (lines : List ℤ) (x : ℤ) → Region p (suc k) size L lines →
       Region p (suc k) size L (step p size k L at lines x .places)
   step-region k L at lines x r =
-      let same = ap (λ (j : ℕ). j * size) (less-one k) in
-      record {
-        some = r .some;
-        few = r .few;
-        stretch = r .stretch;
-        sized = r .sized;
-        whole = step-length k L at lines x (r .whole ∙ same) ∙ sym same;
-        small = r .small;
-      }
+      let less : suc k - 1 ≡ k = omega arith in
+      let whole : length lines ≡ k * size = r .whole ∙ ap (λ (j : ℕ). j * size) less in
+      region-same (step-length k L at lines x whole ∙ sym whole) r
 
   pub run-region : (k at : ℕ) (lines xs : List ℤ) → Region p (suc k) size 1 lines → Region p (suc k) size 1 (run p size k at lines xs .places)
   unfolding run

@@ -64,13 +64,15 @@ Near f =
 pub all-zeros : Near (λ M g x n. pos 0) → ⊥
 unfolding exactOutput gainSum exactLevel weighted sum band holdBack
 all-zeros near =
-    let h : unity * 50000 * 8000000 ≤ farthest * (unity * commonScale 2) = near 2 (lit≤ tt) (lit≤ tt) (λ _. gainOf low-alone) (signalOf (pos 8000000 ∷ [])) 9 low-allowed in
+    let h : unity * 50000 * 8000000 ≤ farthest * (unity * commonScale 2) =
+    near 2 (lit≤ tt) (lit≤ tt) (λ _. gainOf low-alone) (signalOf (pos 8000000 ∷ [])) 9 low-allowed in
     omega arith
 
 pub delayed-input : Near (λ M g x n. back x n (delay published M)) → ⊥
 unfolding exactOutput gainSum exactLevel weighted sum band holdBack
 delayed-input near =
-    let h : unity * 50000 * 8000000 ≤ farthest * (unity * commonScale 2) = near 2 (lit≤ tt) (lit≤ tt) (λ _. gainOf high-alone) (signalOf (pos 8000000 ∷ [])) 9 high-allowed in
+    let h : unity * 50000 * 8000000 ≤ farthest * (unity * commonScale 2) =
+    near 2 (lit≤ tt) (lit≤ tt) (λ _. gainOf high-alone) (signalOf (pos 8000000 ∷ [])) 9 high-allowed in
     omega arith
 
 -- ---- touch nothing: the first output of 100,000 is 313, and not what the output block held

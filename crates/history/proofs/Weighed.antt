@@ -81,18 +81,12 @@ pub output-ext : (p : Prototype) (M : ℕ) (g h : ℕ → ℕ → ℤ) (x : Sign
 unfolding output gainSum
 output-ext p M g h x n e = ap outOf (sum-ext M (λ i _. ap (λ (z : ℤ). z *ℤ heldBack p M (line p M x) (suc i) n) (e (suc i))))
 
--- of the aligned samples from n on
-pub outputs-are : (p : Prototype) (x : Signal) (k c n : ℕ) (h g : ℕ → ℕ → ℤ) → ((i : ℕ) → h i ≡ g (n + i)) →
-    outputs h (from n c (alignedAt p x k 0)) ≡ from n c (output p (suc k) g x)
-unfolding level
-outputs-are p x k c n h g e =
-    outputs-from c n h g (alignedAt p x k 0) e ∙
-    from-ext n c (λ i _ _. ap outOf (band-sum-is p x (g i) k 0 i) ∙ out-is p k g x i)
-
 -- samples that follow the first n of x, on lines that hold those: the tree's outputs, each under its own gains
 pub run-outputs : (p : Prototype) → Centred p → (x : Signal) (k size : ℕ) → ((n : ℕ) → Free p x k 0 n) → (xs lines : List ℤ) (at n : ℕ) → at < size →
     Region p (suc k) size 1 lines → Holds p x k 0 size at lines n → ((i : ℕ) → i < length xs → getD xs i (pos 0) ≡ x (n + i)) → (g : ℕ → ℕ → ℤ) →
     outputs (λ i. g (n + i)) (run p size k at lines xs .aligned) ≡ from n (length xs) (output p (suc k) g x)
+unfolding level
 run-outputs p is x k size free xs lines at n i r h e g =
     ap (outputs (λ j. g (n + j))) (run-keeps p is x k size free xs lines at n i r h e .aligned-are) ∙
-    outputs-are p x k (length xs) n (λ j. g (n + j)) g (λ j. refl)
+    outputs-from (length xs) n (λ j. g (n + j)) g (alignedAt p x k 0) (λ j. refl) ∙
+    from-ext n (length xs) (λ j _ _. ap outOf (band-sum-is p x (g j) k 0 j) ∙ out-is p k g x j)

@@ -88,7 +88,7 @@ module _ (M : ℕ) (least : 2 ≤ M) (most : M ≤ 10) (cs : List Call) (all : A
   continued : Continued M (signalOf (joined cs)) 0 cs (played (prepared M) cs)
   continued =
       calls-keep M (signalOf (joined cs)) least
-      (λ k. free-always (signalOf (joined cs)) (samples-small (prepared M) cs all) (M - 1) 0 k (omega arith)) cs (prepared M) 0
+      (λ k. free-always (signalOf (joined cs)) (samples-small (prepared M) cs all) (M - 1) k (omega arith)) cs (prepared M) 0
       (prepared-holds M (signalOf (joined cs)) least most) all (λ i h. ap (signalOf (joined cs)) (sym (zero-add i)))
 
   -- the outputs joined are the tree's outputs for the joined samples, sample n under the gains of the call that carried it
@@ -106,7 +106,8 @@ module _ (M : ℕ) (least : 2 ≤ M) (most : M ≤ 10) (cs : List Call) (all : A
 
   -- .. and the memory holds just those samples
   pub memory-holds : State published M (signalOf (joined cs)) (length (joined cs)) (played (prepared M) cs .memory)
-  memory-holds = subst (λ (k : ℕ). State published M (signalOf (joined cs)) k (played (prepared M) cs .memory)) (zero-add (length (joined cs))) (continued .state)
+  memory-holds =
+      subst (λ (k : ℕ). State published M (signalOf (joined cs)) k (played (prepared M) cs .memory)) (zero-add (length (joined cs))) (continued .state)
 
 -- two ways of cutting the same samples under the same gains give the same output and the same memory meaning
 pub cutting-alike : (M : ℕ) → 2 ≤ M → M ≤ 10 → (cs ds : List Call) → AllAccepted (prepared M) cs → AllAccepted (prepared M) ds → joined cs ≡ joined ds →
