@@ -12,7 +12,7 @@ use lib.ListN.{length, length-append}
 use lib.IntN.{ℤ}
 use Rattle.wave.specs.Values.{sizeOf}
 use Rattle.wave.specs.declared.format.Format.{Format}
-use Rattle.octave.specs.History.{Call, joined}
+use Rattle.history.specs.History.{Call, joined}
 use Rattle.eqfile.specs.Data.{samplesFrom}
 use Rattle.eqfile.specs.Turn.{late, fedInAll, allRead, wantedOf, turnOf}
 use Rattle.eqfile.specs.Program.{Piece, ByPlan, handed}

@@ -15,10 +15,10 @@ use Rattle.tree.specs.Signal.{Signal, signalOf, gainOf}
 use Rattle.tree.specs.Tree.{line, gainSum, output}
 use Rattle.answers.specs.Unit.{leastSample, mostSample, unity}
 use Rattle.octave.specs.Memory.{prepared}
-use Rattle.octave.specs.History.{from}
 use Rattle.answers.proofs.Ranges.{all-at, cons-all}
 use Rattle.octave.proofs.Ranges.{within-parts}
-use Rattle.octave.proofs.WholeHistory.{from-at}
+use Rattle.history.specs.History.{from}
+use Rattle.history.proofs.From.{from-at}
 use Rattle.answers.specs.Answer.{accepted}
 use Rattle.wave.specs.Samples.{samplesOf, bytesOf}
 use Rattle.wave.specs.Values.{sizeOf}

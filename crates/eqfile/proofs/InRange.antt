@@ -14,9 +14,7 @@ use Rattle.answers.specs.Unit.{leastSample, mostSample, unity}
 use Rattle.answers.proofs.Ranges.{all-cons, cons-all}
 use Rattle.whole.specs.Nearest.{nearest}
 use Rattle.whole.proofs.Limit.{limit-least, limit-most}
-use Rattle.tree.specs.Prototype.{published}
-use Rattle.octave.specs.Step.{step}
-use Rattle.octave.specs.Run.{next, outOf, answered, run}
+use Rattle.octave.specs.Weighing.{outOf, bandSum, outputs}
 use Rattle.wave.specs.Bytes.{number, field}
 use Rattle.wave.specs.Sample.{sampleIn}
 use Rattle.wave.specs.Samples.{samplesOf}
@@ -94,10 +92,9 @@ out-in-range z =
     let order : leastSample ≤ℤ mostSample = record { le = tt } in
     between leastSample mostSample (outOf z) (limit-least leastSample mostSample (nearest unity z) order) (limit-most leastSample mostSample (nearest unity z) order)
 
-module _ (M size : ℕ) (g : ℕ → ℤ) where
-  pub run-in-range : (xs lines : List ℤ) (at : ℕ) → allInRange (run published M size g lines at xs .outputs) ≡ true
-  unfolding run answered
-  run-in-range [] lines at = none-within leastSample mostSample
-  run-in-range (x ∷ xs) lines at =
-      let s = step published M size at 1 g lines x in
-      next-in-range (outOf (s .sum)) (run published M size g (s .places) (next size at) xs .outputs) (out-in-range (s .sum)) (run-in-range xs (s .places) (next size at))
+-- whatever the aligned samples and the gains of each
+pub outputs-in-range : (g : ℕ → ℕ → ℤ) (aligned : List (List ℤ)) → allInRange (outputs g aligned) ≡ true
+unfolding outputs
+outputs-in-range g [] = none-within leastSample mostSample
+outputs-in-range g (a ∷ rest) =
+    next-in-range (outOf (bandSum (g 0) a)) (outputs (λ i. g (suc i)) rest) (out-in-range (bandSum (g 0) a)) (outputs-in-range (λ i. g (suc i)) rest)

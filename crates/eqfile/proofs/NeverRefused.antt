@@ -2,7 +2,7 @@
 use mathlib.Core.Path.{_≡_, refl, sym, ap, subst, _∙_}
 use mathlib.Core.Bool.{true}
 use mathlib.Core.List.{List, [], _∷_}
-use Prim.Native.Nat.{ℕ, suc, _-_, _*_, _≤_}
+use Prim.Native.Nat.{ℕ, suc, _-_, _*_, _≤_, _<_}
 use native.Mathlib.Omega.{arith}
 use borrow.Author.Tests.{eq-eqb, le-leb, le-ltb}
 use lib.ListN.{length, take, drop, length-drop}
@@ -13,39 +13,37 @@ use Rattle.answers.specs.Range.{allWithin}
 use Rattle.answers.specs.Unit.{blockLimit, largestGain}
 use Rattle.tree.specs.Prototype.{published}
 use Rattle.tree.specs.Signal.{gainOf}
+use Rattle.lines.specs.Line.{next}
+use Rattle.lines.specs.Cascade.{step, run}
+use Rattle.lines.specs.Helpers.{Region}
 use Rattle.octave.specs.declared.block.Blocked.{Blocked}
 use Rattle.octave.specs.declared.block.Blocked.the-variants.{Written}
-use Rattle.octave.specs.Memory.{lineLength, prepared, accepts}
-use Rattle.octave.specs.Helpers.{Region}
-use Rattle.octave.specs.Run.{next, answered, run}
+use Rattle.octave.specs.Memory.{lineLength, memoryOf, prepared, accepts}
+use Rattle.octave.specs.Weighing.{outputs}
 use Rattle.octave.specs.Block.{equalised, blockOf}
 use Rattle.octave.proofs.Memories.{accepts-is}
-use Rattle.octave.proofs.Running.{next-inside, region-moved}
-use Rattle.octave.proofs.Samples.{step-length}
-use Rattle.octave.proofs.Calls.{prepared-holds}
+use Rattle.history.proofs.Regions.{run-region, run-inside}
+use Rattle.history.proofs.Calls.{prepared-holds}
 use Rattle.wave.specs.Samples.{bytesOf}
 use Rattle.wave.specs.declared.samples.Stored.{Stored}
 use Rattle.wave.proofs.Storing.{length-bytes}
 use Rattle.wave.proofs.Codec.{to-all}
 use Rattle.eqfile.specs.Arguments.{bands}
 use Rattle.eqfile.specs.Equalise.{countOf, storedOf}
-use Rattle.eqfile.proofs.InRange.{allInRange, run-in-range, in-range-drop}
+use Rattle.eqfile.proofs.InRange.{allInRange, outputs-in-range, in-range-drop}
 
 -- ---- the samples through the lines
 
-module _ (M size : ℕ) (g : ℕ → ℤ) where
-  run-long : (xs lines : List ℤ) (at : ℕ) → length (run published M size g lines at xs .outputs) ≡ length xs
-  unfolding run
-  run-long [] lines at = refl
-  run-long (x ∷ xs) lines at = ap suc (run-long xs (answered published M size at g lines x .places) (next size at))
+-- as many outputs as samples
+run-long : (size k at : ℕ) (lines xs : List ℤ) → length (run published size k at lines xs .aligned) ≡ length xs
+unfolding run
+run-long size k at lines [] = refl
+run-long size k at lines (x ∷ xs) = ap suc (run-long size k (next size at) (step published size k 1 at lines x .places) xs)
 
-  run-region : (xs lines : List ℤ) (at : ℕ) → Region published M size at 1 lines →
-      Region published M size (run published M size g lines at xs .position) 1 (run published M size g lines at xs .places)
-  unfolding run answered
-  run-region [] lines at r = r
-  run-region (x ∷ xs) lines at r =
-      run-region xs (answered published M size at g lines x .places) (next size at)
-      (region-moved (next-inside size at (r .inside)) (step-length M size at 1 g lines x r) r)
+outputs-long : (g : ℕ → ℕ → ℤ) (aligned : List (List ℤ)) → length (outputs g aligned) ≡ length aligned
+unfolding outputs
+outputs-long g [] = refl
+outputs-long g (a ∷ rest) = ap suc (outputs-long (λ i. g (suc i)) rest)
 
 -- ---- the block
 
@@ -53,13 +51,14 @@ module _ (M size : ℕ) (g : ℕ → ℤ) where
 pub record Ready (m : List ℤ) : Type 0 where
   pub at : ℕ
   pub lines : List ℤ
-  pub memory-is : m ≡ pos bands ∷ pos at ∷ lines
-  pub region : Region published bands (lineLength bands) at 1 lines
+  pub memory-is : m ≡ memoryOf (record { count = pos bands; position = pos at; lines = lines })
+  pub inside : at < lineLength bands
+  pub region : Region published bands (lineLength bands) 1 lines
 
 pub prepared-ready : Ready (prepared bands)
 prepared-ready =
     let s = prepared-holds bands (λ _. pos 0) (omega arith) (omega arith) in
-    record { at = s .at; lines = s .lines; memory-is = s .memory-is; region = s .region }
+    record { at = s .at; lines = s .lines; memory-is = s .memory-is; inside = s .inside; region = s .region }
 
 -- what a block of the program leaves
 pub record BlockDone (input : List ℤ) (b : Outcome Blocked (List ℤ × List ℤ)) : Type 0 where
@@ -77,22 +76,28 @@ pub block-done : (m gains input before : List ℤ) → Ready m → Allowed gains
 unfolding decide
 block-done m gains input before s g alike short range =
     let size = lineLength bands in
-    let r = run published bands size (gainOf gains) (s .lines) (s .at) input in
+    let r = run published size (bands - 1) (s .at) (s .lines) input in
     subst (λ (q : List ℤ). BlockDone input (blockOf q gains input before)) (sym (s .memory-is))
     (subst (BlockDone input) (sym is)
     (record {
       accepts = refl;
       ready =
-          record { at = r .position; lines = r .places; memory-is = refl; region = run-region bands size (gainOf gains) input (s .lines) (s .at) (s .region) };
-      long = run-long bands size (gainOf gains) input (s .lines) (s .at);
-      in-range = run-in-range bands size (gainOf gains) input (s .lines) (s .at);
+          record {
+            at = r .position;
+            lines = r .places;
+            memory-is = refl;
+            inside = run-inside published size (bands - 1) (s .at) (s .lines) input (s .inside);
+            region = run-region published size (bands - 1) (s .at) (s .lines) input (s .region);
+          };
+      long = outputs-long (λ _. gainOf gains) (r .aligned) ∙ run-long size (bands - 1) (s .at) (s .lines) input;
+      in-range = outputs-in-range (λ _. gainOf gains) (r .aligned);
     }))
   where
     m' : List ℤ
-    m' = pos bands ∷ pos (s .at) ∷ s .lines
+    m' = memoryOf (record { count = pos bands; position = pos (s .at); lines = s .lines })
 
     kept : accepts m' ≡ true
-    kept = accepts-is m' refl (omega (arith, s .region .whole)) (le-ltb (s .at) 0 (omega arith)) (s .region .inside)
+    kept = accepts-is m' refl (omega (arith, s .region .whole)) (le-ltb (s .at) 0 (omega arith)) (s .inside)
 
     is : blockOf m' gains input before ≡ record { result = Written (length input); lent = equalised m' gains input }
     is =

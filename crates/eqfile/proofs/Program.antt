@@ -13,8 +13,8 @@ use Rattle.tree.specs.Tree.{output}
 use Rattle.octave.specs.Memory.{prepared}
 use Rattle.octave.specs.Block.{blockOf}
 use Rattle.octave.specs.Answer.{blockAnswer}
-use Rattle.octave.specs.History.{played, AllAccepted, from}
-use Rattle.octave.proofs.WholeHistory.{played-accepted}
+use Rattle.history.specs.History.{played, AllAccepted, from}
+use Rattle.history.proofs.WholeHistory.{played-accepted}
 use Rattle.answers.specs.Answer.{accepted}
 use Rattle.wave.specs.Samples.{bytesOf}
 use Rattle.wave.specs.Values.{sizeOf}

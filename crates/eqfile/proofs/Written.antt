@@ -20,8 +20,10 @@ use Rattle.tree.specs.Signal.{Signal, back, signalOf, gainOf}
 use Rattle.tree.specs.Tree.{output}
 use Rattle.tree.proofs.EqualGains.{equal-gains}
 use Rattle.octave.specs.Memory.{prepared}
-use Rattle.octave.specs.History.{Call, played, AllAccepted, joined, carried, from}
-use Rattle.octave.proofs.WholeHistory.{from-at, whole-history, output-ext, output-at, carried-here, carried-later}
+use Rattle.history.specs.History.{Call, played, AllAccepted, joined, carried, from}
+use Rattle.history.proofs.From.{from-at}
+use Rattle.history.proofs.Weighed.{output-ext}
+use Rattle.history.proofs.WholeHistory.{whole-history, output-at, carried-here, carried-later}
 use Rattle.answers.specs.Unit.{leastSample, mostSample, unity}
 use Rattle.gain.specs.Table.{entry, gains}
 use Rattle.answers.specs.Answer.{accepted}
@@ -84,7 +86,7 @@ module _ (gains xs : List ℤ) (cs : List Call) (all : AllAccepted (prepared ban
   written-is n h =
       let inside : late + n < length (joined cs) = omega (arith, long) in
       getD-drop late (played (prepared bands) cs .output) n (pos 0) ∙ output-at bands (omega arith) (omega arith) cs all (late + n) inside ∙
-      output-ext bands (carried cs) (λ _. gainOf gains) (signalOf (joined cs)) (late + n) (λ m. carried-same gains cs same (late + n) m inside) ∙
+      output-ext published bands (carried cs) (λ _. gainOf gains) (signalOf (joined cs)) (late + n) (λ m. carried-same gains cs same (late + n) m inside) ∙
       ap (λ (x : Signal). output published bands (λ _. gainOf gains) x (late + n)) (fun-ext (λ k. ap (λ (l : List ℤ). signalOf l k) fed ∙ zeros-after xs late k)) ∙
       ap (output published bands (λ _. gainOf gains) (signalOf xs)) (add-comm late n)
 

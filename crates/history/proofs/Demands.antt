@@ -27,7 +27,7 @@ use Rattle.answers.specs.Range.{allWithin}
 use Rattle.octave.specs.Memory.{prepared}
 use Rattle.history.specs.History.{Call, afterCall, AllAccepted, joined, carried, written, exact}
 use Rattle.octave.proofs.Ranges.{within-parts}
-use Rattle.history.proofs.Calls.{accepted-ran, samples-small}
+use Rattle.history.proofs.Accepted.{accepted-ran, samples-small}
 use Rattle.history.proofs.WholeHistory.{output-at, carried-here, carried-later}
 
 -- ---- the gains of accepted calls are allowed
@@ -47,7 +47,8 @@ unfolding AllAccepted joined
 carried-allowed m [] a n h k = absurd (omega arith)
 carried-allowed m (c ∷ cs) a n h k = by (decLt n (length (c .input))) (λ l. carried-allowed (afterCall m c) cs (a .1) (n - length (c .input)) l k)
   where
-    by : Dec (n < length (c .input)) → (n - length (c .input) < length (joined cs) → IsGain (carried cs (n - length (c .input)) k)) → IsGain (carried (c ∷ cs) n k)
+    by : Dec (n < length (c .input)) → (n - length (c .input) < length (joined cs) → IsGain (carried cs (n - length (c .input)) k)) →
+        IsGain (carried (c ∷ cs) n k)
     by (yes l) rest =
         subst IsGain (sym (carried-here c cs n k l))
         (gain-is (c .gains) (accepted-ran m (c .gains) (c .input) (c .before) (length (c .input)) (a .0) .gains-allowed) k)
@@ -62,7 +63,8 @@ module _ (m : List ℤ) (cs : List Call) (all : AllAccepted m cs) (n : ℕ) wher
   line-within j = published-reach (signalOf (joined cs)) n (λ k _. samples-small m cs all k) j
 
   pub limit-never-acts : (j : ℕ) → j < 9 →
-      limit leastPlace mostPlace (lowPass published (2 ^ j) (level published j (signalOf (joined cs))) n) ≡ lowPass published (2 ^ j) (level published j (signalOf (joined cs))) n
+      limit leastPlace mostPlace (lowPass published (2 ^ j) (level published j (signalOf (joined cs))) n) ≡
+      lowPass published (2 ^ j) (level published j (signalOf (joined cs))) n
   limit-never-acts = published-low-pass-never-limited (signalOf (joined cs)) n (λ k _. samples-small m cs all k)
 
 -- ---- the demands, for the output at n of accepted calls from prepared memory

@@ -1,7 +1,11 @@
 -- The whole history and the demands, by subject.
 pub mod Rings
+pub mod Regions
 pub mod Holds
+pub mod From
 pub mod Samples
+pub mod Weighed
+pub mod Accepted
 pub mod Calls
 pub mod WholeHistory
 pub mod Demands

@@ -21,7 +21,7 @@ use Rattle.octave.specs.Answer.{blockAnswer}
 use Rattle.octave.specs.Memory.{prepared}
 use Rattle.octave.specs.Block.{blockChecks, equalised}
 use Rattle.history.specs.History.{Call, called, afterCall, isAccepted, Played, played, acceptedOf, AllAccepted, joined, carried, from, written, exact}
-use Rattle.history.proofs.Calls.{unnumbered-ran}
+use Rattle.history.proofs.Accepted.{unnumbered-ran}
 use Rattle.history.proofs.WholeHistory.{whole-history}
 use Rattle.history.proofs.Demands.{written-near}
 
@@ -29,7 +29,9 @@ use Rattle.history.proofs.Demands.{written-near}
 
 -- an accepted call answers its block length
 accepted-length : (m : List ℤ) (c : Call) → isAccepted m c ≡ true → blockAnswer (called m c .result) ≡ accepted (length (c .input))
-accepted-length m c e = ap (λ (o : Outcome Blocked (List ℤ × List ℤ)). blockAnswer (o .result)) (unnumbered-ran m (c .gains) (c .input) (c .before) (eqb-true (numberIn (blockAnswer (called m c .result))) 0 e) .is)
+accepted-length m c e =
+    ap (λ (o : Outcome Blocked (List ℤ × List ℤ)). blockAnswer (o .result))
+    (unnumbered-ran m (c .gains) (c .input) (c .before) (eqb-true (numberIn (blockAnswer (called m c .result))) 0 e) .is)
 
 -- a refused call leaves the memory
 refused-memory : (m : List ℤ) (c : Call) → isAccepted m c ≡ false → afterCall m c ≡ m
@@ -81,5 +83,6 @@ module _ (M : ℕ) (least : 2 ≤ M) (most : M ≤ 10) (cs : List Call) where
   pub near-of-any : (n : ℕ) → n < length (joined taken) →
       natAbs (pos (unity * commonScale M) *ℤ written M cs n -ℤ exact M taken n) ≤ 2048 * commonScale M + slack published M (carried taken) n
   near-of-any n inside =
-      subst (λ (p : Played). natAbs (pos (unity * commonScale M) *ℤ getD (p .output) n (pos 0) -ℤ exact M taken n) ≤ 2048 * commonScale M + slack published M (carried taken) n)
+      subst
+      (λ (p : Played). natAbs (pos (unity * commonScale M) *ℤ getD (p .output) n (pos 0) -ℤ exact M taken n) ≤ 2048 * commonScale M + slack published M (carried taken) n)
       (sym (refused-between (prepared M) cs)) (written-near M least most taken (all-accepted (prepared M) cs) n inside)

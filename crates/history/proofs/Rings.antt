@@ -12,17 +12,10 @@ use lib.Seq.{getD-set-same, getD-set-other, getD-take, length-take-le}
 use lib.IntN.{ℤ, pos}
 use Rattle.tree.specs.Signal.{Signal, back}
 use Rattle.tree.proofs.Back.{back-in, back-out}
-use Rattle.octave.specs.Line.{place, ago}
-use Rattle.octave.specs.Run.{next}
+use Rattle.lines.specs.Line.{place, ago, next}
+use Rattle.lines.proofs.Places.{place-cases, place-inside}
 
 -- ---- places
-
-place-cases : (size at d : ℕ) (P : ℕ → Type 0) → (d ≤ at → P (at - d)) → (at < d → P (at + size - d)) → P (place size at d)
-place-cases size at d P inside around = by (leb d at) refl
-  where
-    by : (t : Bool) → leb d at ≡ t → P (cond t (at - d) (at + size - d))
-    by true e = inside (leb-true d at e)
-    by false e = around (leb-false d at e)
 
 next-cases : (size at : ℕ) (P : ℕ → Type 0) → (at + 1 < size → P (at + 1)) → (size ≤ at + 1 → P 0) → P (next size at)
 next-cases size at P inside around = by (ltb (at + 1) size) refl
@@ -31,8 +24,8 @@ next-cases size at P inside around = by (ltb (at + 1) size) refl
     by true e = inside (ltb-true (at + 1) size e)
     by false e = around (ltb-false (at + 1) size e)
 
-place-inside : (size at d : ℕ) → 1 ≤ d → d ≤ size → at < size → place size at d < size
-place-inside size at d l h i = place-cases size at d (λ k. k < size) (λ q. omega arith) (λ q. omega arith)
+pub next-inside : (size at : ℕ) → at < size → next size at < size
+next-inside size at h = next-cases size at (λ k. k < size) (λ q. q) (λ q. omega arith)
 
 -- place(next at, 1) = at: after a sample, one back is where it was put
 place-newest : (size at : ℕ) → at < size → place size (next size at) 1 ≡ at

@@ -18,15 +18,15 @@ use Rattle.tree.specs.Gains.{AllowedGains}
 use Rattle.answers.specs.Answer.{accepted, numberIn}
 use Rattle.answers.specs.Checks.{allHold, Outcome, decide, Done}
 use Rattle.answers.specs.Range.{firstOutside}
+use Rattle.lines.specs.Line.{tap, lineSum, lowValue, lateValue}
+use Rattle.lines.specs.Cascade.{step, run}
 use Rattle.octave.specs.declared.block.Blocked.{Blocked}
 use Rattle.octave.specs.declared.block.Blocked.the-variants.{Written}
 use Rattle.octave.specs.Answer.{blockAnswer}
 use Rattle.octave.specs.Memory.{prepared}
-use Rattle.octave.specs.Line.{tap, lineSum, lowValue}
-use Rattle.octave.specs.Step.{step}
-use Rattle.octave.specs.Run.{answered, run}
+use Rattle.octave.specs.Weighing.{bandSum, outputs}
 use Rattle.octave.specs.Block.{blockOf}
-use Rattle.history.proofs.Calls.{accepted-ran}
+use Rattle.history.proofs.Accepted.{accepted-ran}
 
 -- the low band alone, and the high band alone
 abbrev low-alone : List ℤ
@@ -64,19 +64,21 @@ Near f =
 pub all-zeros : Near (λ M g x n. pos 0) → ⊥
 unfolding exactOutput gainSum exactLevel weighted sum band holdBack
 all-zeros near =
-    let h : unity * 50000 * 8000000 ≤ farthest * (unity * commonScale 2) = near 2 (lit≤ tt) (lit≤ tt) (λ _. gainOf low-alone) (signalOf (pos 8000000 ∷ [])) 9 low-allowed in
+    let h : unity * 50000 * 8000000 ≤ farthest * (unity * commonScale 2) =
+    near 2 (lit≤ tt) (lit≤ tt) (λ _. gainOf low-alone) (signalOf (pos 8000000 ∷ [])) 9 low-allowed in
     omega arith
 
 pub delayed-input : Near (λ M g x n. back x n (delay published M)) → ⊥
 unfolding exactOutput gainSum exactLevel weighted sum band holdBack
 delayed-input near =
-    let h : unity * 50000 * 8000000 ≤ farthest * (unity * commonScale 2) = near 2 (lit≤ tt) (lit≤ tt) (λ _. gainOf high-alone) (signalOf (pos 8000000 ∷ [])) 9 high-allowed in
+    let h : unity * 50000 * 8000000 ≤ farthest * (unity * commonScale 2) =
+    near 2 (lit≤ tt) (lit≤ tt) (λ _. gainOf high-alone) (signalOf (pos 8000000 ∷ [])) 9 high-allowed in
     omega arith
 
 -- ---- touch nothing: the first output of 100,000 is 313, and not what the output block held
 
 pub touch-nothing : Done (blockOf (prepared 2) low-alone (pos 100000 ∷ []) (pos 0 ∷ [])) (Written 1) (prepared 2, pos 0 ∷ []) → ⊥
-unfolding decide allHold firstOutside run answered step lowValue lineSum tap sum
+unfolding decide allHold firstOutside run step lowValue lateValue lineSum tap sum outputs bandSum
 touch-nothing d = let h : _≡_ {A = ℕ} 0 313 = ap (λ (l : List ℤ × List ℤ). natAbs (getD (l .1) 0 (pos 0))) (d .lent-is) in omega arith
 
 -- ---- filter the first block, then pass samples through: silence after 100,000 is answered by -1,338 at 2
@@ -86,7 +88,7 @@ abbrev filtered : List ℤ
 filtered = blockOf (prepared 2) low-alone (pos 100000 ∷ []) (pos 0 ∷ []) .lent .0
 
 pub pass-through : (m : List ℤ) → Done (blockOf filtered low-alone (pos 0 ∷ pos 0 ∷ []) (pos 0 ∷ pos 0 ∷ [])) (Written 2) (m, pos 0 ∷ pos 0 ∷ []) → ⊥
-unfolding decide allHold firstOutside run answered step lowValue lineSum tap sum
+unfolding decide allHold firstOutside run step lowValue lateValue lineSum tap sum outputs bandSum
 pass-through m d = let h : _≡_ {A = ℕ} 0 1338 = ap (λ (l : List ℤ × List ℤ). natAbs (getD (l .1) 1 (pos 0))) (d .lent-is) in omega arith
 
 -- ---- invent the number of samples written: it is the block length, for all inputs

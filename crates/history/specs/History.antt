@@ -67,7 +67,7 @@ carried [] n m = pos 0
 carried (c ∷ cs) n m = cond (ltb n (length (c .input))) (gainOf (c .gains) m) (carried cs (n - length (c .input)) m)
 
 -- rule 11.2: f n, f (n + 1), .., k of them
-unfoldable pub from : ℕ → ℕ → (ℕ → ℤ) → List ℤ
+unfoldable pub from : {A : Type 0} → ℕ → ℕ → (ℕ → A) → List A
 from n zero f = []
 from n (suc k) f = f n ∷ from (n + 1) k f
 
