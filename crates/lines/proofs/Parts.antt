@@ -30,7 +30,11 @@ module _ (p : Prototype) (size : ℕ) where
   cut (suc w) [] = refl
   cut (suc w) (a ∷ x) = ap (λ (l : List ℤ). a ∷ l) (cut w x)
 
-  -- what the second asks
+  -- what each asks
+  pub first-part : (at L w n : ℕ) (lines : List ℤ) → w ≤ n → Part p lines size at L 0 n → Part p lines size at L 0 w
+  first-part at L w n lines h q =
+      record { ordered = omega arith; before-end = omega (arith, q .before-end); reach = q .reach; some = q .some; held = q .held; small = q .small }
+
   pub second-part : (at L w n : ℕ) (lines ls : List ℤ) → w ≤ n → length ls ≡ length lines → Part p lines size at L 0 n → Part p ls size at L w n
   second-part at L w n lines ls h e q =
       record { ordered = h; before-end = q .before-end; reach = q .reach; some = q .some; held = rw e (q .held); small = q .small }

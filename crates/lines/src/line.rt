@@ -1,6 +1,7 @@
 // One line of the memory: a ring of `size` places, `at` the place of the next sample. Reads come before the store, so the
 // oldest sample is still there.
 ghost use mathlib.Core.Path.{_≡_};
+ghost use mathlib.Core.Bool.{true};
 ghost use Prim.Native.Nat.{_≤_, _<_, _*_};
 ghost use Rattle.tree.specs.Prototype.{published};
 ghost use Rattle.lines.specs.Line.{ago, lowValue, lateValue};
@@ -69,19 +70,21 @@ fn sum_straight(line: &[i32], size: usize, at: usize, l: usize, x: i32) -> i64
     )
 }
 
-// The new value of the line below, where no tap wraps.
-pub(crate) fn low_straight(line: &[i32], size: usize, at: usize, l: usize, x: i32) -> i32
-    requires { ⌜ Within published (now line) size at l × (18 * l ≤ at) ⌝ }
+// The new value of the line below; `straight` where it is known that no tap wraps.
+pub(crate) fn low_value(
+    line: &[i32],
+    size: usize,
+    at: usize,
+    l: usize,
+    x: i32,
+    straight: bool,
+) -> i32
+    requires { ⌜ Within published (now line) size at l × (straight ≡ true → 18 * l ≤ at) ⌝ }
     ensures { λ r. ⌜ r ≡ lowValue published (now (line .entry)) size at l x ⌝ }
 {
-    limit_32(nearest_100000(sum_straight(line, size, at, l, x)))
-}
-
-// .. and where one may.
-pub(crate) fn low_around(line: &[i32], size: usize, at: usize, l: usize, x: i32) -> i32
-    requires { ⌜ Within published (now line) size at l ⌝ }
-    ensures { λ r. ⌜ r ≡ lowValue published (now (line .entry)) size at l x ⌝ }
-{
+    if straight {
+        return limit_32(nearest_100000(sum_straight(line, size, at, l, x)));
+    }
     limit_32(nearest_100000(sum_around(line, size, at, l, x)))
 }
 
