@@ -22,7 +22,7 @@ use Rattle.tree.specs.Tree.{delay}
 use Rattle.octave.specs.declared.memory.Kept.{Kept}
 use Rattle.octave.specs.declared.memory.Kept.the-variants.{Bands, CountWrong, LengthWrong, PositionOutside}
 use Rattle.octave.specs.Answer.{keptAnswer}
-use Rattle.octave.specs.Memory.{lineLength, memoryLength, countAllowed, prepared, bandsIn, positionIn, positionWithin, memoryChecks, accepts, keptOf}
+use Rattle.octave.specs.Memory.{lineLength, memoryLength, countAllowed, prepared, bandsIn, heldIn, memoryOf, positionWithin, memoryChecks, accepts, keptOf}
 use Rattle.octave.proofs.Ranges.{Count, count-of}
 use Rattle.octave.proofs.memory.Kept as kept
 
@@ -54,23 +54,23 @@ position-parts size at e = by (ltZ at (pos 0)) refl e
 -- ---- an accepted memory
 
 pub record Accepted (m : List ℤ) (bands : ℕ) : Type 0 where
-  pub count : Count (getD m 0 (pos 0))
+  pub count : Count (heldIn m .count)
   pub bands-are : bandsIn m ≡ bands
   pub long : length m ≡ memoryLength bands
-  pub not-below : ltZ (positionIn m) (pos 0) ≡ false
-  pub inside : natAbs (positionIn m) < lineLength bands
+  pub not-below : ltZ (heldIn m .position) (pos 0) ≡ false
+  pub inside : natAbs (heldIn m .position) < lineLength bands
 
 pub accepted-is : (m : List ℤ) (bands : ℕ) → accepts m ≡ true → bands ≡ bandsIn m → Accepted m bands
 unfolding allHold
 accepted-is m bands e b =
-    let C : Bool = countAllowed (getD m 0 (pos 0)) in
+    let C : Bool = countAllowed (heldIn m .count) in
     let L : Bool = eqb (length m) (memoryLength (bandsIn m)) in
-    let P : Bool = positionWithin (lineLength (bandsIn m)) (positionIn m) in
+    let P : Bool = positionWithin (lineLength (bandsIn m)) (heldIn m .position) in
     let rest : (L && (P && true)) ≡ true = and-right C (L && (P && true)) e in
-    let p = position-parts (lineLength (bandsIn m)) (positionIn m) (and-left P true (and-right L (P && true) rest)) in
+    let p = position-parts (lineLength (bandsIn m)) (heldIn m .position) (and-left P true (and-right L (P && true) rest)) in
     rw b
     (record {
-      count = count-of (getD m 0 (pos 0)) (and-left C (L && (P && true)) e);
+      count = count-of (heldIn m .count) (and-left C (L && (P && true)) e);
       bands-are = refl;
       long = eqb-true (length m) (memoryLength (bandsIn m)) (and-left L (P && true) rest);
       not-below = p .0;
@@ -78,11 +78,11 @@ accepted-is m bands e b =
     })
 
 -- a memory whose parts are right is accepted
-pub accepts-is : (m : List ℤ) → countAllowed (getD m 0 (pos 0)) ≡ true → length m ≡ memoryLength (bandsIn m) → ltZ (positionIn m) (pos 0) ≡ false →
-    natAbs (positionIn m) < lineLength (bandsIn m) → accepts m ≡ true
+pub accepts-is : (m : List ℤ) → countAllowed (heldIn m .count) ≡ true → length m ≡ memoryLength (bandsIn m) → ltZ (heldIn m .position) (pos 0) ≡ false →
+    natAbs (heldIn m .position) < lineLength (bandsIn m) → accepts m ≡ true
 unfolding allHold
 accepts-is m c l n h =
-    rw (c, eq-eqb (length m) (memoryLength (bandsIn m)) l, n, lt-ltb (natAbs (positionIn m)) (lineLength (bandsIn m)) h)
+    rw (c, eq-eqb (length m) (memoryLength (bandsIn m)) l, n, lt-ltb (natAbs (heldIn m .position)) (lineLength (bandsIn m)) h)
 
 -- ---- how judging tells it
 

@@ -30,9 +30,13 @@ pub record Small (differences : List ℤ) : Type 0 where
 
 -- ---- the rows weighed
 
--- the gain sum of sample i by differences (rule 3.13): line bands - k stands in row k. |r| ≤ bands·2^46 for any places (rule 5.12)
+-- the gain sum of sample i by differences (rule 3.13): the first n of the bands, the top one first; line bands - k stands in row k
+abbrev pub gainSum : (n bands i : ℕ) (matrix differences : List ℤ) → ℤ
+gainSum n bands i matrix differences = sum n (λ k. getD differences (bands - 1 - k) (pos 0) *ℤ getD matrix (rowPlaces * k + i) (pos 0))
+
+-- .. of all bands. |r| ≤ bands·2^46 for any places (rule 5.12)
 pub record SumDone (bands i : ℕ) (matrix differences : List ℤ) (r : ℤ) : Type 0 where
-  pub value : r ≡ sum bands (λ k. getD differences (bands - 1 - k) (pos 0) *ℤ getD matrix (rowPlaces * k + i) (pos 0))
+  pub value : r ≡ gainSum bands bands i matrix differences
   pub bounded : natAbs r ≤ bands * 2 ^ 46
 
 -- for any gains g with these differences and g(bands+1) = 0, the outputs of the rows that the matrix shows
