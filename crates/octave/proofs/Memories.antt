@@ -2,13 +2,15 @@
 use mathlib.Core.Path.{_≡_, refl, sym, ap, subst, _∙_}
 use mathlib.Core.Logic.{⊎-elim}
 use mathlib.Core.Bool.{Bool, true, false, cond, _&&_, false≢true}
-use mathlib.Core.List.{List, [], _∷_}
-use Prim.Native.Nat.{ℕ, suc, _+_, _-_, _*_, _^_, _<_}
+use mathlib.Core.List.{List, [], _∷_, _++_, append-nil}
+use Prim.Native.Nat.{ℕ, suc, _+_, _-_, _*_, _^_, _≤_, _<_}
 use native.Mathlib.Nat.{mul-sub}
 use native.Mathlib.Omega.{arith}
 use borrow.Author.Tests.{eqb-true, eq-eqb, ltb-true, lt-ltb}
+use borrow.Rule.Slice.PartMut.{putMid}
 use lib.Dec.{T, eqb, ltb}
-use lib.ListN.{length, getD, set, replicate}
+use lib.ListN.{length, getD, take, drop, set, replicate, length-drop, drop-of-length-le}
+use lib.Seq.{take-all}
 use lib.IntN.{ℤ, pos, negsuc, natAbs}
 use lib.Signed.{ltZ, nonNeg}
 use types.Run.{OneOf}
@@ -22,9 +24,31 @@ use Rattle.tree.specs.Tree.{delay}
 use Rattle.octave.specs.declared.memory.Kept.{Kept}
 use Rattle.octave.specs.declared.memory.Kept.the-variants.{Bands, CountWrong, LengthWrong, PositionOutside}
 use Rattle.octave.specs.Answer.{keptAnswer}
-use Rattle.octave.specs.Memory.{lineLength, memoryLength, countAllowed, prepared, bandsIn, heldIn, memoryOf, positionWithin, memoryChecks, accepts, keptOf}
+use Rattle.octave.specs.Memory.{lineLength, memoryLength, countAllowed, prepared, Held, headPlaces, heldIn, memoryOf, bandsIn, positionWithin, memoryChecks, accepts, keptOf}
 use Rattle.octave.proofs.Ranges.{Count, count-of}
 use Rattle.octave.proofs.memory.Kept as kept
+
+-- ---- the head and the lines
+
+-- a memory with a head is put together from what it shows
+memory-is : (m : List ℤ) → headPlaces ≤ length m → memoryOf (heldIn m) ≡ m
+memory-is [] h = absurd (omega arith)
+memory-is (x ∷ []) h = absurd (omega arith)
+memory-is (x ∷ y ∷ m) h = refl
+
+-- the lines, as they are lent
+pub lent-is : (m : List ℤ) → take (length m - headPlaces) (drop headPlaces m) ≡ heldIn m .lines
+lent-is m = take-all (length m - headPlaces) (drop headPlaces m) (simp length-drop (omega arith))
+
+-- other lines and another position under the same count
+pub memory-with : (m ys : List ℤ) (p : ℤ) → headPlaces ≤ length m →
+    set (putMid headPlaces (length m - headPlaces) m ys) 1 p ≡ memoryOf (record { count = heldIn m .count; position = p; lines = ys })
+memory-with m ys p h = ap (λ (l : List ℤ). set (putMid headPlaces (length l - headPlaces) l ys) 1 p) (sym (memory-is m h)) ∙ held (heldIn m)
+  where
+    held : (h : Held) → set (putMid headPlaces (length (memoryOf h) - headPlaces) (memoryOf h) ys) 1 p ≡ memoryOf (record { count = h .count; position = p; lines = ys })
+    held h =
+        ap (λ (l : List ℤ). h .count ∷ p ∷ (ys ++ l)) (drop-of-length-le (h .lines) {i = length (memoryOf h) - headPlaces} (omega arith)) ∙
+        ap (λ (l : List ℤ). h .count ∷ p ∷ l) (append-nil ys)
 
 -- ---- the prepared memory
 

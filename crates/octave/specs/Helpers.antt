@@ -9,7 +9,7 @@ use Rattle.answers.specs.Range.{allWithin}
 use Rattle.answers.specs.Unit.{largestGain}
 use Rattle.whole.specs.Sum.{sum}
 use Rattle.lines.specs.Cascade.{Ran}
-use Rattle.lines.specs.Rows.{rowPlaces, Shown, columns, Even}
+use Rattle.lines.specs.Rows.{rowPlaces, Rowed, Shown, columns, Even}
 use Rattle.octave.specs.Memory.{bandsIn, accepts}
 use Rattle.octave.specs.Weighing.{outputs}
 
@@ -45,6 +45,11 @@ pub record RowWeighed (bands : ℕ) (matrix differences outs : List ℤ) : Type 
       Shown (length outs) rows matrix → outs ≡ outputs (λ _. g) (columns rows)
 
 -- ---- the run
+
+-- a row's places, and its outputs for any gains g with these differences and g(bands+1) = 0
+pub record RowAnswered (bands : ℕ) (r : Rowed) (differences places outs : List ℤ) : Type 0 where
+  pub places-are : places ≡ r .places
+  pub under : (g : ℕ → ℤ) → Differ bands g differences → g (suc bands) ≡ pos 0 → outs ≡ outputs (λ _. g) (columns (r .rows))
 
 -- the samples' places, position and outputs
 pub record RunDone (r : Ran) (g : ℕ → ℤ) (places : List ℤ) (position : ℕ) (outs : List ℤ) : Type 0 where
