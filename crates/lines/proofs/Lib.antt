@@ -5,3 +5,7 @@ pub mod Places
 pub mod Interchange
 pub mod Turns
 pub mod Columns
+pub mod Loops
+pub mod Parts
+pub mod Regions
+pub mod Cascading

@@ -1,8 +1,8 @@
 -- From eleven samples to the sum over nineteen coefficients (rule 5.7), and where the samples stand in the line. Assumes nothing.
-use mathlib.Core.Path.{_≡_, refl, ap, subst, _∙_}
+use mathlib.Core.Path.{_≡_, refl, sym, ap, subst, _∙_}
 use mathlib.Core.List.{List}
 use Prim.Native.Nat.{ℕ, zero, suc, _+_, _-_, _*_, _≤_, _<_, _^_}
-use native.Mathlib.Nat.{mul-comm}
+use native.Mathlib.Nat.{mul-comm, add-mul}
 use native.Mathlib.Omega.{arith}
 use borrow.Author.Tests.{le-leb, lt-leb}
 use lib.Dec.{lit<, lit≤}
@@ -21,7 +21,7 @@ use Rattle.whole.specs.Limit.{limit}
 use Rattle.whole.proofs.Limit.{limit32-fits}
 use Rattle.whole.proofs.Rounded.{raw, nearest-fits}
 use Rattle.tree.specs.Prototype.{published, coefficient}
-use Rattle.lines.specs.Line.{place, tap, lineSum, lowValue}
+use Rattle.lines.specs.Line.{place, tap, lineSum, lowValue, lateValue}
 use Rattle.lines.specs.Helpers.{eleven, Weighed, Summed}
 
 -- ---- eleven products are the nineteen
@@ -73,12 +73,19 @@ pub read-new : (line : List ℤ) (size at L : ℕ) {x : ℤ} → SFits w32 x →
 unfolding tap
 read-new line size at L f = record { fits = f .sfits; value = refl }
 
--- where a sample stands that does not wrap, and one that does
-pub place-back : (size at d : ℕ) → d ≤ at → at - d ≡ place size at d
+-- where a sample stands that does not wrap
+place-back : (size at d : ℕ) → d ≤ at → at - d ≡ place size at d
 place-back size at d h = rw (le-leb d at h)
 
-pub place-round : (size at d : ℕ) → at < d → at + size - d ≡ place size at d
-place-round size at d h = rw (lt-leb d at h)
+-- where 18·L ≤ at: the tap i·L back stands (18 - i)·L above the oldest
+pub straight-place : (size at L : ℕ) → 18 * L ≤ at → (i k : ℕ) → i + k ≡ 18 → at - 18 * L + k * L ≡ place size at (i * L)
+straight-place size at L h i k e =
+    let whole : 18 * L ≡ i * L + k * L = ap (λ (n : ℕ). n * L) (sym e) ∙ add-mul i k L in
+    let inside : i * L ≤ at = omega (arith, whole) in
+    (let q : at - 18 * L + k * L ≡ at - i * L = omega (arith, whole) in q) ∙ place-back size at (i * L) inside
+
+pub oldest-place : (size at L : ℕ) → 18 * L ≤ at → at - 18 * L ≡ place size at (18 * L)
+oldest-place size at L h = place-back size at (18 * L) h
 
 module _ (line : List ℤ) (size at L : ℕ) (x : ℤ) where
   -- at the place of the sample i taps back
@@ -87,15 +94,6 @@ module _ (line : List ℤ) (size at L : ℕ) (x : ℤ) where
   read-place zero k s e f = absurd (omega arith)
   read-place (suc i) k s e f =
       record { fits = f; value = ap (λ (j : ℕ). getD line j (pos 0)) (e ∙ ap (place size at) (mul-comm (suc i) L)) }
-
-  -- .. k places up in a window of the line
-  pub read-window : (from i k : ℕ) → 1 ≤ i → from + k < length line → from + k ≡ place size at (i * L) →
-      let window = take (length line - from) (drop from line) in mag (getD window k (pos 0)) < 2 ^ 31 → Read (getD window k (pos 0)) (tap line size at L x i)
-  read-window from i k s inside e f =
-      let same : getD (take (length line - from) (drop from line)) k (pos 0) ≡ getD line (from + k) (pos 0) =
-      getD-take (length line - from) (drop from line) k (pos 0) (omega arith) ∙ getD-drop from line k (pos 0) in
-      let r = read-place i (from + k) s e (rw same at f) in
-      record { fits = f; value = same ∙ r .value }
 
 -- ---- from the sum to the line's new value
 
@@ -118,8 +116,17 @@ low-value-is {line} {size} {at} {L} {x} {s} {n} {r} h e l =
 
 -- ---- the aligned sample: `size - 9·L` back is 9·L ahead, in the ring
 
-pub ahead-in : (size at L : ℕ) → 18 * L ≤ size → at + 9 * L < size → place size at (size - 9 * L) ≡ at + 9 * L
-ahead-in size at L h k = rw (lt-leb (size - 9 * L) at (omega arith)) (omega arith)
+module _ (line : List ℤ) (size at L : ℕ) (reach : 2 * (9 * L) ≤ size) where
+  pub late-ahead : at + 9 * L < size → SFits w32 (getD line (at + 9 * L) (pos 0)) → raw w32 (getD line (at + 9 * L) (pos 0)) ≡ lateValue published line size at L
+  unfolding lateValue
+  late-ahead h f = toZ-ofZ f ∙ ap (λ (k : ℕ). getD line k (pos 0)) (sym here)
+    where
+      here : place size at (size - 9 * L) ≡ at + 9 * L
+      here = rw (lt-leb (size - 9 * L) at (omega arith)) (omega arith)
 
-pub ahead-round : (size at L : ℕ) → 18 * L ≤ size → size ≤ at + 9 * L → place size at (size - 9 * L) ≡ at + 9 * L - size
-ahead-round size at L h k = rw (le-leb (size - 9 * L) at (omega arith)) (omega arith)
+  pub late-round : size ≤ at + 9 * L → SFits w32 (getD line (at + 9 * L - size) (pos 0)) → raw w32 (getD line (at + 9 * L - size) (pos 0)) ≡ lateValue published line size at L
+  unfolding lateValue
+  late-round h f = toZ-ofZ f ∙ ap (λ (k : ℕ). getD line k (pos 0)) (sym here)
+    where
+      here : place size at (size - 9 * L) ≡ at + 9 * L - size
+      here = rw (le-leb (size - 9 * L) at (omega arith)) (omega arith)
