@@ -45,6 +45,13 @@ unfolding outputs
 outputs-append g [] ys = refl
 outputs-append g (a ∷ xs) ys = ap (λ (l : List ℤ). outOf (bandSum g a) ∷ l) (outputs-append g xs ys)
 
+-- outputs that stand behind others, and those of the samples after them
+outputs-joined : (g : ℕ → ℤ) (done outs : List ℤ) (xs ys : List (List ℤ)) → outs ≡ outputs (λ _. g) xs →
+    (done ++ outs) ++ outputs (λ _. g) ys ≡ done ++ outputs (λ _. g) (xs ++ ys)
+outputs-joined g done outs xs ys e =
+    append-assoc done outs (outputs (λ _. g) ys) ∙
+    ap (λ (l : List ℤ). done ++ l) (ap (λ (l : List ℤ). l ++ outputs (λ _. g) ys) e ∙ sym (outputs-append g xs ys))
+
 -- a part put in its place ends where the part does
 take-put-end : (i n : ℕ) (xs ys : List ℤ) → i ≤ length xs → length ys ≡ n → take (i + n) (putMid i n xs ys) ≡ take i xs ++ ys
 take-put-end i n xs ys h e =
@@ -137,9 +144,6 @@ module _ (bands size from : ℕ) (g : ℕ → ℤ) (lines₀ input output₀ lin
       let put : take (i + n) (putMid i (i + n - i) output outs) ≡ take i output ++ outs =
       ap (λ (m : ℕ). take (i + n) (putMid i m output outs)) (less n) ∙ take-put-end i n output outs (omega (arith, going .same-output, going .reached)) many in
       let same : run published size k (wrapped size (at + n)) ys later ≡ T = ap (λ (l : List ℤ). run published size k (wrapped size (at + n)) l later) (d .places-are) in
-      let joined : (take i output ++ outs) ++ outputs (λ _. g) (T .aligned) ≡ take i output ++ outputs (λ _. g) (columns (R .rows) ++ T .aligned) =
-      append-assoc (take i output) outs (outputs (λ _. g) (T .aligned)) ∙
-      ap (λ (l : List ℤ). take i output ++ l) (ap (λ (l : List ℤ). l ++ outputs (λ _. g) (T .aligned)) (d .under g q top) ∙ sym (outputs-append g (columns (R .rows)) (T .aligned))) in
       record {
         inside = wrapped-inside size (at + n) (omega (arith, going .inside));
         reached = omega (arith, going .reached);
@@ -147,7 +151,8 @@ module _ (bands size from : ℕ) (g : ℕ → ℤ) (lines₀ input output₀ lin
         same-output = same-len-mid i (i + n - i) output outs lo ∙ going .same-output;
         ten-rows = lr ∙ going .ten-rows;
         rest =
-            ap₂ (λ (l : List ℤ) (r : Ran). went g l r) put same ∙ ap (λ (l : List ℤ). record { places = T .places; position = T .position; outs = l }) joined ∙
+            ap₂ (λ (l : List ℤ) (r : Ran). went g l r) put same ∙
+            ap (λ (l : List ℤ). record { places = T .places; position = T .position; outs = l }) (outputs-joined g (take i output) outs (columns (R .rows)) (T .aligned) (d .under g q top)) ∙
             ap (went g (take i output)) (sym here) ∙ going .rest;
       }
 
