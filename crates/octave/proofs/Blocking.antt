@@ -1,6 +1,6 @@
 -- The block call: what the samples' run asks, and its places after the samples. Assumes nothing.
 use mathlib.Core.Path.{_≡_, sym, ap, ap₂, _∙_}
-use mathlib.Core.Bool.{Bool, true, false, cond}
+use mathlib.Core.Bool.{true}
 use mathlib.Core.List.{List, [], _∷_}
 use Prim.Native.Nat.{ℕ, _+_, _-_, _*_, _^_, _≤_, _<_}
 use native.Mathlib.Nat.{one-mul}
@@ -22,7 +22,7 @@ use Rattle.tree.specs.Signal.{gainOf}
 use Rattle.lines.specs.Line.{next}
 use Rattle.lines.specs.Cascade.{Ran, step, run}
 use Rattle.lines.specs.Helpers.{Region}
-use Rattle.octave.specs.Memory.{lineLength, Held, headPlaces, heldIn, memoryOf}
+use Rattle.octave.specs.Memory.{lineLength, headPlaces, heldIn, memoryOf}
 use Rattle.octave.specs.Weighing.{outputs}
 use Rattle.octave.specs.Block.{equalised}
 use Rattle.octave.specs.Helpers.{Allowed, RunDone}
@@ -52,15 +52,15 @@ position-inside size k [] lines at h = h
 position-inside size k (x ∷ xs) lines at h =
     position-inside size k xs (step published size k 1 at lines x .places) (next size at) (wrapped-inside size (at + 1) (omega arith))
 
-module _ (m gains input : List ℤ) (bands size from : ℕ) (a : Accepted m bands) (es : size ≡ lineLength bands) (ef : from ≡ natAbs (heldIn m .position)) where
-  -- the lines as the code lends them
-  abbrev lent : List ℤ
-  lent = take (length m - headPlaces) (drop headPlaces m)
+-- the lines as the code lends them
+abbrev lent : List ℤ → List ℤ
+lent m = take (length m - headPlaces) (drop headPlaces m)
 
+module _ {m : List ℤ} {bands size from : ℕ} (a : Accepted m bands) (es : size ≡ lineLength bands) (ef : from ≡ natAbs (heldIn m .position)) where
   few : bands ≤ 10
   few = omega (arith, a .count .most, a .bands-are)
 
-  pub region-is : Region published bands size 1 lent
+  pub region-is : Region published bands size 1 (lent m)
   region-is =
       rw (lent-is m, es)
       (record {
@@ -75,21 +75,19 @@ module _ (m gains input : List ℤ) (bands size from : ℕ) (a : Accepted m band
   pub from-inside : from < size
   from-inside = rw (es, ef) (a .inside)
 
-  module _ (ys outs : List ℤ) (at : ℕ) (d : RunDone (run published size (bands - 1) from lent input) (gainOf gains) ys at outs) where
+  module _ (gains input : List ℤ) {ys outs : List ℤ} {at : ℕ} (d : RunDone (run published size (bands - 1) from (lent m) input) (gainOf gains) ys at outs) where
     pub position-small : at < 2 ^ 31
-    position-small = rw (d .position-is) (omega (arith, position-inside size (bands - 1) input lent from from-inside, es, line-small bands few))
+    position-small = rw (d .position-is) (omega (arith, position-inside size (bands - 1) input (lent m) from from-inside, es, line-small bands few))
 
     pub equalised-is : (set (putMid headPlaces (length m - headPlaces) m ys) 1 (toZ w32 at), outs) ≡ equalised m gains input
     equalised-is =
         let count : heldIn m .count ≡ pos bands = sym (pos-natAbs (heldIn m .count) (a .count .not-negative)) ∙ ap pos (a .bands-are) in
         let done : RunDone (run published (lineLength bands) (bands - 1) (natAbs (heldIn m .position)) (heldIn m .lines) input) (gainOf gains) ys at outs =
         rw (lent-is m, es, ef) at d in
-        ap₂ (λ (u v : List ℤ). (u, v))
-        (memory-with m ys (toZ w32 at) (omega (arith, a .long)) ∙
-        ap₂ (λ (n : ℤ) (l : List ℤ). n ∷ toZ w32 at ∷ l) count (done .places-are) ∙
-        ap (λ (z : ℤ). pos bands ∷ z ∷ ran bands .places) (toZ-pos w32 position-small ∙ ap pos (done .position-is)))
-        (done .outputs-are) ∙
-        ap (λ (M : ℕ). through M) (sym (a .bands-are))
+        let kept : set (putMid headPlaces (length m - headPlaces) m ys) 1 (toZ w32 at) ≡ memoryOf (record { count = pos bands; position = pos (ran bands .position); lines = ran bands .places }) =
+        memory-with m ys (toZ w32 at) (omega (arith, a .long)) ∙ ap₂ (λ (n : ℤ) (l : List ℤ). n ∷ toZ w32 at ∷ l) count (done .places-are) ∙
+        ap (λ (z : ℤ). pos bands ∷ z ∷ ran bands .places) (toZ-pos w32 position-small ∙ ap pos (done .position-is)) in
+        _∙_ {b = through bands} (ap₂ (λ (u v : List ℤ). (u, v)) kept (done .outputs-are)) (ap through (sym (a .bands-are)))
       where
         -- with M bands
         ran : ℕ → Ran

@@ -1,20 +1,17 @@
 -- The gain differences of neighbouring bands. Assumes nothing.
-use mathlib.Core.Path.{_≡_, refl, ap, ap₂, _∙_}
+use mathlib.Core.Path.{_≡_, refl, ap₂, _∙_}
 use mathlib.Core.List.{List}
 use Prim.Native.Nat.{ℕ, zero, suc, _+_, _-_, _≤_, _<_, _^_}
-use native.Mathlib.Nat.{mul-le-mul}
 use native.Mathlib.Omega.{arith}
 use native.Mathlib.Decide.{decLt}
 use lib.ListN.{length, getD, set, length-set, replicate, List·getD-eq-default}
 use lib.Seq.{getD-set-same, getD-set-other}
-use lib.IntN.{ℤ, pos, natAbs, _+ℤ_, _-ℤ_, _*ℤ_}
-use lib.Signed.{natAbs-le}
-use mir.Syntax.{w32, w64}
+use lib.IntN.{ℤ, pos, natAbs, _-ℤ_}
+use mir.Syntax.{w32}
 use mir.Val.{SFits}
 use mir.Facts.{toZ-ofZ}
 use Rattle.whole.proofs.Signed.{var, lit, _⊖_, eq-by, about}
-use Rattle.whole.proofs.Magnitude.{abs-+ℤ, abs--ℤ, abs-*ℤ}
-use Rattle.whole.proofs.Product.{widens}
+use Rattle.whole.proofs.Magnitude.{abs--ℤ}
 use Rattle.whole.proofs.Rounded.{raw}
 use Rattle.tree.specs.Signal.{gainOf}
 use Rattle.octave.specs.Helpers.{Differ, Small}

@@ -1,13 +1,13 @@
 -- The gain sum by differences is the gain sum by bands, and the outputs of a row. Assumes nothing.
 use mathlib.Core.Path.{_≡_, refl, sym, ap, ap₂, _∙_}
-use mathlib.Core.List.{List, [], _∷_, _++_}
+use mathlib.Core.List.{List, [], _∷_}
 use Prim.Native.Nat.{ℕ, zero, suc, _+_, _-_, _*_, _^_, _≤_, _<_}
 use native.Mathlib.Nat.{mul-le-mul}
 use native.Mathlib.Omega.{arith}
 use native.Mathlib.Decide.{decLt}
 use lib.ListN.{length, getD, set, length-set}
 use lib.Seq.{ext-getD, getD-set-same, getD-set-other}
-use lib.IntN.{ℤ, pos, natAbs, _+ℤ_, _-ℤ_, _*ℤ_, +ℤ-idl}
+use lib.IntN.{ℤ, pos, natAbs, _+ℤ_, _-ℤ_, _*ℤ_}
 use lib.Dec.{lit<, lit≤}
 use lib.Signed.{natAbs-le}
 use mir.Syntax.{w32, w64}
@@ -100,8 +100,8 @@ sum-is g ds matrix n i row rows h sh d top =
 part-small : (d a : ℤ) → natAbs d ≤ 2 ^ 15 → SFits w32 a → natAbs (d *ℤ a) ≤ 2 ^ 46
 part-small d a h f = rw (abs-*ℤ d a) (mul-le-mul {n₂ = 2 ^ 15} {m₂ = 2 ^ 31} h (natAbs-le a (f .sfits)))
 
-pub weight-room : (d w : ℤ) → natAbs d ≤ 2 ^ 15 → SFits w32 d → w ≡ raw w32 d → natAbs (raw w64 w) ≤ 2 ^ 30
-weight-room d w h f e = rw (e, widens f .answer) (omega arith)
+pub weight-room : (d : ℤ) {w : ℤ} → natAbs d ≤ 2 ^ 15 → SFits w32 d → w ≡ raw w32 d → natAbs (raw w64 w) ≤ 2 ^ 30
+weight-room d h f e = rw (e, widens f .answer) (omega arith)
 
 -- the lines above line b are added; `at` is the place of the next one's sample
 pub record Summing (bands i : ℕ) (matrix ds : List ℤ) (s : ℤ) (b at : ℕ) : Type 0 where
@@ -116,18 +116,18 @@ summing-starts bands i matrix ds =
     let none : bands - bands ≡ 0 = omega arith in
     record { left = omega arith; place = omega arith; so-far = rw none refl; bounded = omega arith }
 
-module _ (bands i : ℕ) (matrix ds : List ℤ) (s : ℤ) (b at : ℕ) (k : Summing bands i matrix ds s b at) (few : bands ≤ 10) where
+module _ {bands i : ℕ} {matrix ds : List ℤ} {s : ℤ} {b at : ℕ} (k : Summing bands i matrix ds s b at) (few : bands ≤ 10) where
   pub sum-room : natAbs s ≤ 2 ^ 61
   sum-room = omega (arith, k .bounded)
 
   pub place-within : 0 < b → i < rowPlaces → rowPlaces * bands ≤ length matrix → at < length matrix
   place-within n h l = omega (arith, k .place, k .left)
 
-  pub summing-on : (w r : ℤ) → 0 < b → Small ds → SFits w32 (getD ds (b - 1) (pos 0)) → SFits w32 (getD matrix at (pos 0)) →
+  pub summing-on : {w r : ℤ} → 0 < b → Small ds → SFits w32 (getD ds (b - 1) (pos 0)) → SFits w32 (getD matrix at (pos 0)) →
       w ≡ raw w32 (getD ds (b - 1) (pos 0)) → r ≡ s +ℤ raw w64 w *ℤ raw w32 (getD matrix at (pos 0)) →
       Summing bands i matrix ds (raw w64 r) (b - 1) (at + rowPlaces)
   unfolding sum
-  summing-on w r some sm fd fx ew er =
+  summing-on {w} {r} some sm fd fx ew er =
       let d = getD ds (b - 1) (pos 0) in
       let x = getD matrix at (pos 0) in
       let r-is : r ≡ s +ℤ d *ℤ x = er ∙ ap₂ (λ (u v : ℤ). s +ℤ u *ℤ v) (ap (raw w64) ew ∙ widens fd .answer) (toZ-ofZ fx) in
@@ -175,10 +175,10 @@ written-starts bands matrix ds output = record { same = refl; stands = λ j h. a
 pub done-room : {bands i : ℕ} {matrix ds : List ℤ} {s : ℤ} → bands ≤ 10 → SumDone bands i matrix ds s → natAbs (raw w64 s) ≤ 2 ^ 62
 done-room {s = s} few d = rw (toZ-ofZ {w = w64} {z = s} (record { sfits = omega (arith, about s, d .bounded) })) (omega (arith, d .bounded))
 
-module _ (bands : ℕ) (matrix ds output₀ output : List ℤ) (i : ℕ) (w : Written bands matrix ds output₀ output i) where
-  pub written-on : (s n r : ℤ) → bands ≤ 10 → i < length output → SumDone bands i matrix ds s → n ≡ nearest unity (raw w64 s) → r ≡ limit leastSample mostSample (raw w64 n) →
+module _ {bands : ℕ} {matrix ds output₀ output : List ℤ} {i : ℕ} (w : Written bands matrix ds output₀ output i) where
+  pub written-on : {s n r : ℤ} → bands ≤ 10 → i < length output → SumDone bands i matrix ds s → n ≡ nearest unity (raw w64 s) → r ≡ limit leastSample mostSample (raw w64 n) →
       Written bands matrix ds output₀ (set output i (raw w32 r)) (i + 1)
-  written-on s n r few h d en er =
+  written-on {s} {n} {r} few h d en er =
       let s-back : raw w64 s ≡ s = toZ-ofZ (record { sfits = omega (arith, about s, d .bounded) }) in
       let n-is : n ≡ nearest unity s = en ∙ ap (nearest unity) s-back in
       let n-back : raw w64 n ≡ n = toZ-ofZ (rw n-is (nearest-fits 4096 (lit< tt) (lit≤ tt) s (omega (arith, d .bounded)))) in

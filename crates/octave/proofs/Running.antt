@@ -5,14 +5,14 @@ use mathlib.Core.List.{List, [], _∷_, _++_, append-assoc, append-nil}
 use Prim.Native.Nat.{ℕ, suc, _+_, _-_, _*_, _^_, _≤_, _<_}
 use native.Mathlib.Omega.{arith}
 use borrow.Author.Tests.{lt-ltb, le-ltb, ltb-true}
-use borrow.Rule.Slice.PartMut.{midOf, putMid, same-len-mid}
+use borrow.Rule.Slice.PartMut.{putMid, same-len-mid}
 use lib.Dec.{ltb, lit≤}
 use lib.ListN.{length, take, drop, length-drop, length-append, take-append-drop, drop-of-length-le}
 use lib.Seq.{drop-drop, length-take-le, take-all, take-at}
 use lib.IntN.{ℤ, pos}
-use Rattle.tree.specs.Prototype.{Prototype, published}
+use Rattle.tree.specs.Prototype.{published}
 use Rattle.lines.specs.Cascade.{Ran, run}
-use Rattle.lines.specs.Rows.{rowPlaces, wrapped, rowed, columns, Even}
+use Rattle.lines.specs.Rows.{rowPlaces, wrapped, rowed, columns}
 use Rattle.lines.specs.Helpers.{Centred, Region, RowRegion, RowsDone}
 use Rattle.lines.proofs.Interchange.{rows-count, rows-even}
 use Rattle.lines.proofs.Turns.{turn}
@@ -45,13 +45,6 @@ unfolding outputs
 outputs-append g [] ys = refl
 outputs-append g (a ∷ xs) ys = ap (λ (l : List ℤ). outOf (bandSum g a) ∷ l) (outputs-append g xs ys)
 
--- outputs that stand behind others, and those of the samples after them
-outputs-joined : (g : ℕ → ℤ) (done outs : List ℤ) (xs ys : List (List ℤ)) → outs ≡ outputs (λ _. g) xs →
-    (done ++ outs) ++ outputs (λ _. g) ys ≡ done ++ outputs (λ _. g) (xs ++ ys)
-outputs-joined g done outs xs ys e =
-    append-assoc done outs (outputs (λ _. g) ys) ∙
-    ap (λ (l : List ℤ). done ++ l) (ap (λ (l : List ℤ). l ++ outputs (λ _. g) ys) e ∙ sym (outputs-append g xs ys))
-
 -- a part put in its place ends where the part does
 take-put-end : (i n : ℕ) (xs ys : List ℤ) → i ≤ length xs → length ys ≡ n → take (i + n) (putMid i n xs ys) ≡ take i xs ++ ys
 take-put-end i n xs ys h e =
@@ -61,10 +54,10 @@ take-put-end i n xs ys h e =
 -- ---- a row
 
 -- what the matrix shows is what is weighed
-pub row-answered : (bands size at : ℕ) (lines xs ds ys matrix outs : List ℤ) → 1 ≤ bands → length outs ≡ length xs →
+pub row-answered : (bands size at : ℕ) (lines xs : List ℤ) {ds ys matrix outs : List ℤ} → 1 ≤ bands → length outs ≡ length xs →
     RowsDone (rowed published size (bands - 1) 1 at lines xs) (length xs) ys matrix → RowWeighed bands matrix ds outs →
     RowAnswered bands (rowed published size (bands - 1) 1 at lines xs) ds ys outs
-row-answered bands size at lines xs ds ys matrix outs some e d w =
+row-answered bands size at lines xs some e d w =
     let R = rowed published size (bands - 1) 1 at lines xs in
     let count : length (R .rows) ≡ bands = rows-count published size (bands - 1) 1 at lines xs ∙ suc-less bands some in
     record {
@@ -86,6 +79,19 @@ record Went : Type 0 where
 abbrev went : (ℕ → ℤ) → List ℤ → Ran → Went
 went g done r = record { places = r .places; position = r .position; outs = done ++ outputs (λ _. g) (r .aligned) }
 
+-- a row more is written: `r` was what the rest gave before it, `r'` what it gives behind it
+went-on : (g : ℕ → ℤ) (done outs : List ℤ) (cols : List (List ℤ)) (t : Ran) {written : List ℤ} {r r' : Ran} {whole : Went} → written ≡ done ++ outs → outs ≡ outputs (λ _. g) cols → r' ≡ t →
+    r ≡ record { places = t .places; position = t .position; aligned = cols ++ t .aligned } → went g done r ≡ whole → went g written r' ≡ whole
+went-on g done outs cols t w o e b rest =
+    ap₂ (λ (l : List ℤ) (q : Ran). went g l q) w e ∙
+    ap (λ (l : List ℤ). record { places = t .places; position = t .position; outs = l }) joined ∙
+    ap (went g done) (sym b) ∙ rest
+  where
+    joined : (done ++ outs) ++ outputs (λ _. g) (t .aligned) ≡ done ++ outputs (λ _. g) (cols ++ t .aligned)
+    joined =
+        append-assoc done outs (outputs (λ _. g) (t .aligned)) ∙
+        ap (λ (l : List ℤ). done ++ l) (ap (λ (l : List ℤ). l ++ outputs (λ _. g) (t .aligned)) o ∙ sym (outputs-append g cols (t .aligned)))
+
 -- up to sample i the outputs are written; what the rest gives from here is what the whole run gives
 pub record Going (bands size from : ℕ) (g : ℕ → ℤ) (lines₀ input output₀ lines output rows : List ℤ) (at i : ℕ) : Type 0 where
   pub inside : at < size
@@ -99,7 +105,7 @@ pub going-starts : (bands size from : ℕ) (g : ℕ → ℤ) (lines input output
 going-starts bands size from g lines input output rows h e =
     record { inside = h; reached = omega arith; same-lines = refl; same-output = refl; ten-rows = e; rest = refl }
 
-module _ (bands size from : ℕ) (g : ℕ → ℤ) (lines₀ input output₀ lines output rows : List ℤ) (at i : ℕ)
+module _ {bands size from : ℕ} {g : ℕ → ℤ} {lines₀ input output₀ lines output rows : List ℤ} {at i : ℕ}
     (going : Going bands size from g lines₀ input output₀ lines output rows at i) (region : Region published bands size 1 lines₀)
     (alike : length output₀ ≡ length input) where
   -- n samples from i on
@@ -150,10 +156,7 @@ module _ (bands size from : ℕ) (g : ℕ → ℤ) (lines₀ input output₀ lin
         same-lines = ly ∙ going .same-lines;
         same-output = same-len-mid i (i + n - i) output outs lo ∙ going .same-output;
         ten-rows = lr ∙ going .ten-rows;
-        rest =
-            ap₂ (λ (l : List ℤ) (r : Ran). went g l r) put same ∙
-            ap (λ (l : List ℤ). record { places = T .places; position = T .position; outs = l }) (outputs-joined g (take i output) outs (columns (R .rows)) (T .aligned) (d .under g q top)) ∙
-            ap (went g (take i output)) (sym here) ∙ going .rest;
+        rest = went-on g (take i output) outs (columns (R .rows)) T put (d .under g q top) same here (going .rest);
       }
 
   pub going-ends : length input ≤ i → RunDone (run published size (bands - 1) from lines₀ input) g lines at output

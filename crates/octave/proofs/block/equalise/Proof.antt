@@ -51,8 +51,8 @@ run-requires c κs =
     let a = s .args in
     let m = now (a .memory) in
     let size = c .before .before .before .line-length in (
-      region-is m (now (a .gains)) (now (a .input)) (a .bands) (size .result) (natAbs (raw w32 (heldIn m .position))) (memory-kept s) (size .ensures) (from-is (c .before .before)),
-      from-inside m (now (a .gains)) (now (a .input)) (a .bands) (size .result) (natAbs (raw w32 (heldIn m .position))) (memory-kept s) (size .ensures) (from-is (c .before .before)),
+      region-is (memory-kept s) (size .ensures) (from-is (c .before .before)),
+      from-inside (memory-kept s) (size .ensures) (from-is (c .before .before)),
       allowed-gains (now (a .gains)) (s .pre .counted) (s .pre .allowed),
       s .pre .alike,
     )
@@ -66,8 +66,8 @@ cast-memory c =
     let run = c .before .before .run in
     record {
       sfits =
-          position-small m (now (a .gains)) (now (a .input)) (a .bands) (size .result) (natAbs (raw w32 (heldIn m .position))) (memory-kept s) (size .ensures)
-          (from-is (c .before .before .before .before .before)) (run .last .0) (run .last .1 .1 .1 .1 .1 .1 .0) (run .result) (run .ensures);
+          position-small (memory-kept s) (size .ensures)
+          (from-is (c .before .before .before .before .before)) (now (a .gains)) (now (a .input)) (run .ensures);
     }
 
 slice-set-from-memory : tie.Need-slice-set-from-memory
@@ -85,8 +85,8 @@ returns c =
     let m = now (a .memory) in
     let size = c .before .before .before .before .before .before .line-length in
     let run = c .before .before .run in
-    equalised-is m (now (a .gains)) (now (a .input)) (a .bands) (size .result) (natAbs (raw w32 (heldIn m .position))) (memory-kept s) (size .ensures)
-    (from-is (c .before .before .before .before .before)) (run .last .0) (run .last .1 .1 .1 .1 .1 .1 .0) (run .result) (run .ensures)
+    equalised-is (memory-kept s) (size .ensures)
+    (from-is (c .before .before .before .before .before)) (now (a .gains)) (now (a .input)) (run .ensures)
 
 pub equalise-spec : {M : Type 1} → statement M
 equalise-spec =

@@ -12,8 +12,7 @@ returns c =
     let a = s .args in
     let cascade = c .before .before .before .before .before .before .cascade in
     let weigh-rows = c .before .weigh-rows in
-    row-answered (a .bands) (a .size) (a .at) (now (a .lines)) (now (a .input)) (now (a .differences)) (cascade .last .0) (cascade .last .1 .1 .1 .1 .1 .1 .0) (weigh-rows .last .1 .1 .1 .0)
-    (s .pre .0 .region .some) (weigh-rows .kept .1 .1 .1 .0 ∙ s .pre .2) (cascade .ensures) (weigh-rows .ensures)
+    row-answered (a .bands) (a .size) (a .at) (now (a .lines)) (now (a .input)) (s .pre .0 .region .some) (weigh-rows .kept .1 .1 .1 .0 ∙ s .pre .2) (cascade .ensures) (weigh-rows .ensures)
 
 pub answer-row-spec : {M : Type 1} → statement M
 answer-row-spec =

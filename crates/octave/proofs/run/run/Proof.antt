@@ -42,11 +42,9 @@ answer-row-requires c κs =
     let l = c .before .before .before .before .before .before .before .loop in
     let n = c .before .before .before .before .before .row-length .result in
     let short = c .before .before .before .before .before .row-length .ensures in (
-      row-region (a .bands) (a .size) (a .from) (gainOf (now (a .gains))) (now (a .lines)) (now (a .input)) (now (a .output)) (l .lines) (l .output) (l .rows) (l .at) (l .i)
-          (l .inv) (s .pre .0) (s .pre .3) n (short .1) (short .2) (short .3),
+      row-region (l .inv) (s .pre .0) (s .pre .3) n (short .1) (short .2) (short .3),
       c .before .before .before .before .before .before .before .before .differences .ensures .1,
-      out-length (a .bands) (a .size) (a .from) (gainOf (now (a .gains))) (now (a .lines)) (now (a .input)) (now (a .output)) (l .lines) (l .output) (l .rows) (l .at) (l .i)
-          (l .inv) (s .pre .0) (s .pre .3) n (short .2),
+      out-length (l .inv) (s .pre .0) (s .pre .3) n (short .2),
     )
 
 wrapped-requires : tie.Need-wrapped-requires Inv-loop μ-loop
@@ -66,8 +64,7 @@ loop-again c =
     let short = c .before .before .before .before .before .before .before .before .before .before .row-length .ensures in
     let row = c .before .before .before .before .answer-row in
     rw (c .wrapped .ensures)
-    (going-on (a .bands) (a .size) (a .from) (gainOf (now (a .gains))) (now (a .lines)) (now (a .input)) (now (a .output)) (l .lines) (l .output) (l .rows) (l .at) (l .i)
-    (l .inv) (s .pre .0) (s .pre .3) n (c .before .before .before .before .before .before .before .before .before .before .before .before .before .differences .result) (row .last .0) (row .last .1 .1 .1 .1 .1 .1 .0) (row .last .1 .1 .1 .1 .1 .1 .1 .0) (short .2) (short .3)
+    (going-on (l .inv) (s .pre .0) (s .pre .3) n (c .before .before .before .before .before .before .before .before .before .before .before .before .before .differences .result) (row .last .0) (row .last .1 .1 .1 .1 .1 .1 .0) (row .last .1 .1 .1 .1 .1 .1 .1 .0) (short .2) (short .3)
     (row .kept .0) (row .kept .1 .1 .1 .1 .1 .1 .0) (row .kept .1 .1 .1 .1 .1 .1 .1 .0)
     (differ (c .before .before .before .before .before .before .before .before .before .before .before .before .before)) (none-above (now (a .gains)) (s .pre .2 .counted)) (row .ensures))
 
@@ -76,8 +73,7 @@ returns c =
     let s = c .before .before .before in
     let a = s .args in
     let l = c .before .loop in
-    going-ends (a .bands) (a .size) (a .from) (gainOf (now (a .gains))) (now (a .lines)) (now (a .input)) (now (a .output)) (l .lines) (l .output) (l .rows) (l .at) (l .i)
-    (l .inv) (s .pre .0) (s .pre .3) (c .loop-test .left)
+    going-ends (l .inv) (s .pre .0) (s .pre .3) (c .loop-test .left)
 
 pub run-spec : {M : Type 1} → statement M
 run-spec =

@@ -40,15 +40,15 @@ shared-slice-copy-out-multiply-add c =
     let l = c .before .before .before .loop in
     let s = c .before .before .before .before in
     let a = s .args in
-    place-within (a .bands) (a .i) (now (a .rows)) (now (a .differences)) (toZ w64 (l .sum)) (l .b) (l .at) (l .inv) (s .pre .0) (c .before .before .loop-test .taken) (s .pre .1) (s .pre .2)
+    place-within (l .inv) (s .pre .0) (c .before .before .loop-test .taken) (s .pre .1) (s .pre .2)
 
 multiply-add-requires : tie.Need-multiply-add-requires Inv-loop μ-loop
 multiply-add-requires c κs =
     let l = c .before .before .before .before .loop in
     let s = c .before .before .before .before .before in
     let a = s .args in (
-      sum-room (a .bands) (a .i) (now (a .rows)) (now (a .differences)) (toZ w64 (l .sum)) (l .b) (l .at) (l .inv) (s .pre .0),
-      weight-room (getD (now (a .differences)) (l .b - 1) (pos 0)) (c .before .widen .result) (s .pre .3 .range (l .b - 1)) (sfits-of (c .before .before .widen-arg .given)) (c .before .widen .ensures),
+      sum-room (l .inv) (s .pre .0),
+      weight-room (getD (now (a .differences)) (l .b - 1) (pos 0)) (s .pre .3 .range (l .b - 1)) (sfits-of (c .before .before .widen-arg .given)) (c .before .widen .ensures),
     )
 
 add-at : tie.Need-add-at Inv-loop μ-loop
@@ -65,15 +65,14 @@ loop-again c =
     let l = c .before .before .before .before .before .loop in
     let s = c .before .before .before .before .before .before in
     let a = s .args in
-    summing-on (a .bands) (a .i) (now (a .rows)) (now (a .differences)) (toZ w64 (l .sum)) (l .b) (l .at) (l .inv) (s .pre .0) (c .before .before .widen .result) (c .multiply-add .result)
-    (c .before .before .before .before .loop-test .taken) (s .pre .3) (sfits-of (c .before .before .before .widen-arg .given)) (sfits-of (c .before .multiply-add-arg .given)) (c .before .before .widen .ensures) (c .multiply-add .ensures)
+    summing-on (l .inv) (s .pre .0) (c .before .before .before .before .loop-test .taken) (s .pre .3) (sfits-of (c .before .before .before .widen-arg .given)) (sfits-of (c .before .multiply-add-arg .given)) (c .before .before .widen .ensures) (c .multiply-add .ensures)
 
 returns : tie.Need-returns Inv-loop μ-loop
 returns c =
     let l = c .before .loop in
     let s = c .before .before in
     let a = s .args in
-    summing-ends (a .bands) (a .i) (now (a .rows)) (now (a .differences)) (toZ w64 (l .sum)) (l .b) (l .at) (l .inv) (s .pre .0) (c .loop-test .left)
+    summing-ends (l .inv) (s .pre .0) (c .loop-test .left)
 
 pub sum-at-spec : {M : Type 1} → statement M
 sum-at-spec =

@@ -42,15 +42,14 @@ loop-again c =
     let s = c .before .before .before .before .before in
     let l = c .before .before .before .before .loop in
     let a = s .args in
-    written-on (a .bands) (now (a .rows)) (now (a .differences)) (now (a .output)) (l .output) (l .i) (l .inv) (c .before .before .sum-at .result) (c .before .nearest-4096 .result)
-    (c .limit-24 .result) (s .pre .1) (c .before .before .before .loop-test .taken) (c .before .before .sum-at .ensures) (c .before .nearest-4096 .ensures) (c .limit-24 .ensures)
+    written-on (l .inv) (s .pre .1) (c .before .before .before .loop-test .taken) (c .before .before .sum-at .ensures) (c .before .nearest-4096 .ensures) (c .limit-24 .ensures)
 
 returns : tie.Need-returns Inv-loop μ-loop
 returns c =
     let s = c .before .before in
     let l = c .before .loop in
     let a = s .args in
-    written-ends (a .bands) (now (a .rows)) (now (a .differences)) (now (a .output)) (l .output) (l .i) (l .inv) (s .pre .0) (c .loop-test .left)
+    written-ends (l .inv) (s .pre .0) (c .loop-test .left)
 
 pub weigh-rows-spec : {M : Type 1} → statement M
 weigh-rows-spec =
