@@ -2,13 +2,12 @@
 use mathlib.Core.Path.{_≡_, sym, ap, ap₂, _∙_}
 use mathlib.Core.Bool.{true}
 use mathlib.Core.List.{List, [], _∷_}
-use Prim.Native.Nat.{ℕ, _-_, _*_, _^_, _≤_, _<_}
-use native.Mathlib.Nat.{not-suc-le-zero, le-of-suc-le-suc, one-mul}
+use Prim.Native.Nat.{ℕ, _+_, _-_, _*_, _^_, _≤_, _<_}
+use native.Mathlib.Nat.{one-mul}
 use native.Mathlib.Omega.{arith}
 use native.Mathlib.Decide.{decLt}
 use borrow.Rule.Slice.PartMut.{putMid}
 use lib.ListN.{length, getD, take, drop, set, length-drop, List·getD-eq-default}
-use lib.Seq.{take-all}
 use lib.IntN.{ℤ, pos, natAbs}
 use lib.Signed.{pos-natAbs}
 use mir.Syntax.{w32}
@@ -20,30 +19,19 @@ use Rattle.answers.proofs.Ranges.{all-at}
 use Rattle.whole.proofs.Signed.{about}
 use Rattle.tree.specs.Prototype.{published}
 use Rattle.tree.specs.Signal.{gainOf}
-use Rattle.octave.specs.Memory.{lineLength, positionIn}
-use Rattle.octave.specs.Run.{next, answered, run}
+use Rattle.lines.specs.Line.{next}
+use Rattle.lines.specs.Cascade.{Ran, step, run}
+use Rattle.lines.specs.Helpers.{Region}
+use Rattle.octave.specs.Memory.{lineLength, headPlaces, heldIn, memoryOf}
+use Rattle.octave.specs.Weighing.{outputs}
 use Rattle.octave.specs.Block.{equalised}
-use Rattle.octave.specs.Helpers.{Region, Allowed, RunDone}
+use Rattle.octave.specs.Helpers.{Allowed, RunDone}
 use Rattle.octave.proofs.Ranges.{within-parts}
 use Rattle.octave.proofs.Layouts.{line-small}
-use Rattle.octave.proofs.Memories.{Accepted}
-use Rattle.octave.proofs.Stepping.{put-is}
-use Rattle.octave.proofs.Running.{next-inside}
+use Rattle.octave.proofs.Memories.{lent-is, memory-with, Accepted}
+use Rattle.octave.proofs.Running.{wrapped-inside}
 
--- ---- what the samples' run asks
-
-pub region-is : (m : List ℤ) (bands size at : ℕ) → Accepted m bands → size ≡ lineLength bands → at ≡ natAbs (positionIn m) →
-    Region published bands size at 1 (take (length m - 2) (drop 2 m))
-region-is m bands size at a es ea =
-    rw (take-all (length m - 2) (drop 2 m) (simp length-drop (omega arith)), es, ea)
-    (record {
-      some = omega (arith, a .count .least, a .bands-are);
-      few = omega (arith, a .count .most, a .bands-are);
-      inside = a .inside;
-      sized = ap (λ (k : ℕ). 9 * k) (sym (one-mul (2 ^ (bands - 1))));
-      whole = rw (length-drop 2 m, a .long) (omega arith);
-      small = line-small bands (omega (arith, a .count .most, a .bands-are));
-    })
+-- ---- the gains
 
 gain-small : (g : ℤ) → within (pos 0) (pos largestGain) g ≡ true → natAbs g ≤ 2 ^ 14
 gain-small g e = omega (arith, about g, within-parts (pos 0) (pos largestGain) g e)
@@ -55,53 +43,56 @@ allowed-gains gains {bands} l e = record { counted = l; range = λ i. by i (decL
     by i (yes h) = gain-small (getD gains i (pos 0)) (all-at (pos 0) (pos largestGain) gains e i h)
     by i (no n) = rw (List·getD-eq-default gains (pos 0) {n = i} (omega arith)) (omega arith)
 
--- ---- the memory after the samples
+-- ---- the samples
 
-pub position-inside : (bands size : ℕ) (g : ℕ → ℤ) (xs lines : List ℤ) (at : ℕ) → at < size → run published bands size g lines at xs .position < size
+-- `next` wraps as the rows do
+position-inside : (size k : ℕ) (xs lines : List ℤ) (at : ℕ) → at < size → run published size k at lines xs .position < size
 unfolding run
-position-inside bands size g [] lines at h = h
-position-inside bands size g (x ∷ xs) lines at h =
-    position-inside bands size g xs (answered published bands size at g lines x .places) (next size at) (next-inside size at h)
+position-inside size k [] lines at h = h
+position-inside size k (x ∷ xs) lines at h =
+    position-inside size k xs (step published size k 1 at lines x .places) (next size at) (wrapped-inside size (at + 1) (omega arith))
 
--- the count, the position and the lines, put back in their places
-rebuilt : (m ys : List ℤ) (p : ℤ) → 2 ≤ length m → set (putMid 2 (length m - 2) m ys) 1 p ≡ getD m 0 (pos 0) ∷ p ∷ ys
-rebuilt [] ys p h = absurd (not-suc-le-zero h)
-rebuilt (x ∷ []) ys p h = absurd (not-suc-le-zero (le-of-suc-le-suc h))
-rebuilt (x ∷ y ∷ m) ys p h = ap (λ (l : List ℤ). set l 1 p) (put-is 2 (x ∷ y ∷ m) ys h)
+-- the lines as the code lends them
+abbrev lent : List ℤ → List ℤ
+lent m = take (length m - headPlaces) (drop headPlaces m)
 
--- the run, on the whole of the lines
-done-here : (bands size from at : ℕ) (m gains input ys outputs : List ℤ) → size ≡ lineLength bands → from ≡ natAbs (positionIn m) →
-    RunDone (run published bands size (gainOf gains) (take (length m - 2) (drop 2 m)) from input) ys at outputs →
-    RunDone (run published bands (lineLength bands) (gainOf gains) (drop 2 m) (natAbs (positionIn m)) input) ys at outputs
-done-here bands size from at m gains input ys outputs es ef d =
-    rw (take-all (length m - 2) (drop 2 m) (simp length-drop (omega arith)), es, ef) at d
+module _ {m : List ℤ} {bands size from : ℕ} (a : Accepted m bands) (es : size ≡ lineLength bands) (ef : from ≡ natAbs (heldIn m .position)) where
+  few : bands ≤ 10
+  few = omega (arith, a .count .most, a .bands-are)
 
-pub position-small : (bands size from at : ℕ) (m gains input ys outputs : List ℤ) → Accepted m bands → size ≡ lineLength bands → from ≡ natAbs (positionIn m) →
-    RunDone (run published bands size (gainOf gains) (take (length m - 2) (drop 2 m)) from input) ys at outputs → at < 2 ^ 31
-position-small bands size from at m gains input ys outputs a es ef d =
-    rw (done-here bands size from at m gains input ys outputs es ef d .position-is)
-    (omega (
-      arith,
-      position-inside bands (lineLength bands) (gainOf gains) input (drop 2 m) (natAbs (positionIn m)) (a .inside),
-      line-small bands (omega (arith, a .count .most, a .bands-are)),
-    ))
+  pub region-is : Region published bands size 1 (lent m)
+  region-is =
+      rw (lent-is m, es)
+      (record {
+        some = omega (arith, a .count .least, a .bands-are);
+        few = few;
+        stretch = omega arith;
+        sized = ap (λ (k : ℕ). 9 * k) (sym (one-mul (2 ^ (bands - 1))));
+        whole = rw (length-drop 2 m, a .long) (omega arith);
+        small = line-small bands few;
+      })
 
-pub equalised-is : (bands size from at : ℕ) (m gains input ys outputs : List ℤ) → Accepted m bands → size ≡ lineLength bands → from ≡ natAbs (positionIn m) →
-    RunDone (run published bands size (gainOf gains) (take (length m - 2) (drop 2 m)) from input) ys at outputs →
-    (set (putMid 2 (length m - 2) m ys) 1 (toZ w32 at), outputs) ≡ equalised m gains input
-equalised-is bands size from at m gains input ys outputs a es ef d =
-    let r = run published bands (lineLength bands) (gainOf gains) (drop 2 m) (natAbs (positionIn m)) input in
-    let done : RunDone r ys at outputs = done-here bands size from at m gains input ys outputs es ef d in
-    let small : at < 2 ^ 31 = position-small bands size from at m gains input ys outputs a es ef d in
-    ap₂ (λ (u v : List ℤ). (u, v))
-    (rebuilt m ys (toZ w32 at) (omega (arith, a .long)) ∙
-    ap₂ (λ (x : ℤ) (l : List ℤ). x ∷ toZ w32 at ∷ l) (sym (pos-natAbs (getD m 0 (pos 0)) (a .count .not-negative)) ∙ ap pos (a .bands-are)) (done .places-are) ∙
-    ap (λ (z : ℤ). pos bands ∷ z ∷ r .places) (toZ-pos w32 small ∙ ap pos (done .position-is)))
-    (done .outputs-are) ∙
-    ap (λ (k : ℕ). through k) (sym (a .bands-are))
-  where
-    -- memory and output of k bands
-    through : ℕ → List ℤ × List ℤ
-    through k =
-        let r = run published k (lineLength k) (gainOf gains) (drop 2 m) (natAbs (positionIn m)) input in
-        (pos k ∷ pos (r .position) ∷ r .places, r .outputs)
+  pub from-inside : from < size
+  from-inside = rw (es, ef) (a .inside)
+
+  module _ (gains input : List ℤ) {ys outs : List ℤ} {at : ℕ} (d : RunDone (run published size (bands - 1) from (lent m) input) (gainOf gains) ys at outs) where
+    pub position-small : at < 2 ^ 31
+    position-small = rw (d .position-is) (omega (arith, position-inside size (bands - 1) input (lent m) from from-inside, es, line-small bands few))
+
+    pub equalised-is : (set (putMid headPlaces (length m - headPlaces) m ys) 1 (toZ w32 at), outs) ≡ equalised m gains input
+    equalised-is =
+        let count : heldIn m .count ≡ pos bands = sym (pos-natAbs (heldIn m .count) (a .count .not-negative)) ∙ ap pos (a .bands-are) in
+        let done : RunDone (run published (lineLength bands) (bands - 1) (natAbs (heldIn m .position)) (heldIn m .lines) input) (gainOf gains) ys at outs =
+        rw (lent-is m, es, ef) at d in
+        let kept : set (putMid headPlaces (length m - headPlaces) m ys) 1 (toZ w32 at) ≡ memoryOf (record { count = pos bands; position = pos (ran bands .position); lines = ran bands .places }) =
+        memory-with m ys (toZ w32 at) (omega (arith, a .long)) ∙ ap₂ (λ (n : ℤ) (l : List ℤ). n ∷ toZ w32 at ∷ l) count (done .places-are) ∙
+        ap (λ (z : ℤ). pos bands ∷ z ∷ ran bands .places) (toZ-pos w32 position-small ∙ ap pos (done .position-is)) in
+        _∙_ {b = through bands} (ap₂ (λ (u v : List ℤ). (u, v)) kept (done .outputs-are)) (ap through (sym (a .bands-are)))
+      where
+        -- with M bands
+        ran : ℕ → Ran
+        ran M = run published (lineLength M) (M - 1) (natAbs (heldIn m .position)) (heldIn m .lines) input
+
+        -- memory and output then
+        through : ℕ → List ℤ × List ℤ
+        through M = (memoryOf (record { count = pos M; position = pos (ran M .position); lines = ran M .places }), outputs (λ _. gainOf gains) (ran M .aligned))

@@ -1,27 +1,20 @@
 -- The gain differences of neighbouring bands. Assumes nothing.
-use mathlib.Core.Path.{_≡_, refl, ap, ap₂, _∙_}
+use mathlib.Core.Path.{_≡_, refl, ap₂, _∙_}
 use mathlib.Core.List.{List}
 use Prim.Native.Nat.{ℕ, zero, suc, _+_, _-_, _≤_, _<_, _^_}
-use native.Mathlib.Nat.{mul-le-mul}
 use native.Mathlib.Omega.{arith}
 use native.Mathlib.Decide.{decLt}
 use lib.ListN.{length, getD, set, length-set, replicate, List·getD-eq-default}
 use lib.Seq.{getD-set-same, getD-set-other}
-use lib.IntN.{ℤ, pos, natAbs, _+ℤ_, _-ℤ_, _*ℤ_}
-use lib.Signed.{natAbs-le}
-use mir.Syntax.{w32, w64}
+use lib.IntN.{ℤ, pos, natAbs, _-ℤ_}
+use mir.Syntax.{w32}
 use mir.Val.{SFits}
 use mir.Facts.{toZ-ofZ}
 use Rattle.whole.proofs.Signed.{var, lit, _⊖_, eq-by, about}
-use Rattle.whole.proofs.Magnitude.{abs-+ℤ, abs--ℤ, abs-*ℤ}
-use Rattle.whole.proofs.Product.{widens}
+use Rattle.whole.proofs.Magnitude.{abs--ℤ}
 use Rattle.whole.proofs.Rounded.{raw}
 use Rattle.tree.specs.Signal.{gainOf}
 use Rattle.octave.specs.Helpers.{Differ, Small}
-
--- a difference times a place
-pub part-small : (d a : ℤ) → natAbs d ≤ 2 ^ 15 → SFits w32 a → natAbs (d *ℤ a) ≤ 2 ^ 46
-part-small d a h f = rw (abs-*ℤ d a) (mul-le-mul {n₂ = 2 ^ 15} {m₂ = 2 ^ 31} h (natAbs-le a (f .sfits)))
 
 -- ---- one difference
 
@@ -90,19 +83,3 @@ module _ (gains found : List ℤ) (i : ℕ) (f : Finding gains found i) where
 -- the band above the top one has no gain
 pub none-above : (gains : List ℤ) {bands : ℕ} → length gains ≡ bands → gainOf gains (suc bands) ≡ pos 0
 none-above gains {bands} e = List·getD-eq-default gains (pos 0) {n = suc bands - 1} (omega arith)
-
--- ---- a line's part of the gain sum
-
-pub record Added (s d late w : ℤ) : Type 0 where
-  pub asked : (natAbs (raw w64 s) ≤ 2 ^ 61) × (natAbs (raw w64 w) ≤ 2 ^ 30)
-  pub answer : (r : ℤ) → r ≡ raw w64 s +ℤ raw w64 w *ℤ raw w32 late → raw w64 r ≡ s +ℤ d *ℤ late
-
-pub added : (s d late w : ℤ) → SFits w64 s → SFits w32 d → SFits w32 late → natAbs s ≤ 2 ^ 61 → natAbs d ≤ 2 ^ 15 → w ≡ raw w32 d → Added s d late w
-added s d late w fs fd fl hs hd e =
-    let w-is : raw w64 w ≡ d = ap (raw w64) e ∙ widens fd .answer in
-    let part : natAbs (d *ℤ late) ≤ 2 ^ 46 = part-small d late hd fl in
-    let f : SFits w64 (s +ℤ d *ℤ late) = record { sfits = omega (arith, about (s +ℤ d *ℤ late), abs-+ℤ s (d *ℤ late)) } in
-    record {
-      asked = (rw (toZ-ofZ fs) hs, rw w-is (omega arith));
-      answer = λ r er. let r-is : r ≡ s +ℤ d *ℤ late = er ∙ ap₂ _+ℤ_ (toZ-ofZ fs) (ap₂ _*ℤ_ w-is (toZ-ofZ fl)) in rw r-is (toZ-ofZ f);
-    }

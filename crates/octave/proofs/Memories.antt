@@ -2,13 +2,15 @@
 use mathlib.Core.Path.{_≡_, refl, sym, ap, subst, _∙_}
 use mathlib.Core.Logic.{⊎-elim}
 use mathlib.Core.Bool.{Bool, true, false, cond, _&&_, false≢true}
-use mathlib.Core.List.{List, [], _∷_}
-use Prim.Native.Nat.{ℕ, suc, _+_, _-_, _*_, _^_, _<_}
+use mathlib.Core.List.{List, [], _∷_, _++_, append-nil}
+use Prim.Native.Nat.{ℕ, suc, _+_, _-_, _*_, _^_, _≤_, _<_}
 use native.Mathlib.Nat.{mul-sub}
 use native.Mathlib.Omega.{arith}
 use borrow.Author.Tests.{eqb-true, eq-eqb, ltb-true, lt-ltb}
+use borrow.Rule.Slice.PartMut.{putMid}
 use lib.Dec.{T, eqb, ltb}
-use lib.ListN.{length, getD, set, replicate}
+use lib.ListN.{length, take, drop, set, replicate, length-drop, drop-of-length-le}
+use lib.Seq.{take-all}
 use lib.IntN.{ℤ, pos, negsuc, natAbs}
 use lib.Signed.{ltZ, nonNeg}
 use types.Run.{OneOf}
@@ -22,9 +24,31 @@ use Rattle.tree.specs.Tree.{delay}
 use Rattle.octave.specs.declared.memory.Kept.{Kept}
 use Rattle.octave.specs.declared.memory.Kept.the-variants.{Bands, CountWrong, LengthWrong, PositionOutside}
 use Rattle.octave.specs.Answer.{keptAnswer}
-use Rattle.octave.specs.Memory.{lineLength, memoryLength, countAllowed, prepared, bandsIn, positionIn, positionWithin, memoryChecks, accepts, keptOf}
+use Rattle.octave.specs.Memory.{lineLength, memoryLength, countAllowed, prepared, Held, headPlaces, heldIn, memoryOf, bandsIn, positionWithin, memoryChecks, accepts, keptOf}
 use Rattle.octave.proofs.Ranges.{Count, count-of}
 use Rattle.octave.proofs.memory.Kept as kept
+
+-- ---- the head and the lines
+
+-- a memory with a head is put together from what it shows
+memory-is : (m : List ℤ) → headPlaces ≤ length m → memoryOf (heldIn m) ≡ m
+memory-is [] h = absurd (omega arith)
+memory-is (x ∷ []) h = absurd (omega arith)
+memory-is (x ∷ y ∷ m) h = refl
+
+-- the lines, as they are lent
+pub lent-is : (m : List ℤ) → take (length m - headPlaces) (drop headPlaces m) ≡ heldIn m .lines
+lent-is m = take-all (length m - headPlaces) (drop headPlaces m) (simp length-drop (omega arith))
+
+-- other lines and another position under the same count
+pub memory-with : (m ys : List ℤ) (p : ℤ) → headPlaces ≤ length m →
+    set (putMid headPlaces (length m - headPlaces) m ys) 1 p ≡ memoryOf (record { count = heldIn m .count; position = p; lines = ys })
+memory-with m ys p h = ap (λ (l : List ℤ). set (putMid headPlaces (length l - headPlaces) l ys) 1 p) (sym (memory-is m h)) ∙ held (heldIn m)
+  where
+    held : (h : Held) → set (putMid headPlaces (length (memoryOf h) - headPlaces) (memoryOf h) ys) 1 p ≡ memoryOf (record { count = h .count; position = p; lines = ys })
+    held h =
+        ap (λ (l : List ℤ). h .count ∷ p ∷ (ys ++ l)) (drop-of-length-le (h .lines) {i = length (memoryOf h) - headPlaces} (omega arith)) ∙
+        ap (λ (l : List ℤ). h .count ∷ p ∷ l) (append-nil ys)
 
 -- ---- the prepared memory
 
@@ -54,23 +78,23 @@ position-parts size at e = by (ltZ at (pos 0)) refl e
 -- ---- an accepted memory
 
 pub record Accepted (m : List ℤ) (bands : ℕ) : Type 0 where
-  pub count : Count (getD m 0 (pos 0))
+  pub count : Count (heldIn m .count)
   pub bands-are : bandsIn m ≡ bands
   pub long : length m ≡ memoryLength bands
-  pub not-below : ltZ (positionIn m) (pos 0) ≡ false
-  pub inside : natAbs (positionIn m) < lineLength bands
+  pub not-below : ltZ (heldIn m .position) (pos 0) ≡ false
+  pub inside : natAbs (heldIn m .position) < lineLength bands
 
 pub accepted-is : (m : List ℤ) (bands : ℕ) → accepts m ≡ true → bands ≡ bandsIn m → Accepted m bands
 unfolding allHold
 accepted-is m bands e b =
-    let C : Bool = countAllowed (getD m 0 (pos 0)) in
+    let C : Bool = countAllowed (heldIn m .count) in
     let L : Bool = eqb (length m) (memoryLength (bandsIn m)) in
-    let P : Bool = positionWithin (lineLength (bandsIn m)) (positionIn m) in
+    let P : Bool = positionWithin (lineLength (bandsIn m)) (heldIn m .position) in
     let rest : (L && (P && true)) ≡ true = and-right C (L && (P && true)) e in
-    let p = position-parts (lineLength (bandsIn m)) (positionIn m) (and-left P true (and-right L (P && true) rest)) in
+    let p = position-parts (lineLength (bandsIn m)) (heldIn m .position) (and-left P true (and-right L (P && true) rest)) in
     rw b
     (record {
-      count = count-of (getD m 0 (pos 0)) (and-left C (L && (P && true)) e);
+      count = count-of (heldIn m .count) (and-left C (L && (P && true)) e);
       bands-are = refl;
       long = eqb-true (length m) (memoryLength (bandsIn m)) (and-left L (P && true) rest);
       not-below = p .0;
@@ -78,11 +102,11 @@ accepted-is m bands e b =
     })
 
 -- a memory whose parts are right is accepted
-pub accepts-is : (m : List ℤ) → countAllowed (getD m 0 (pos 0)) ≡ true → length m ≡ memoryLength (bandsIn m) → ltZ (positionIn m) (pos 0) ≡ false →
-    natAbs (positionIn m) < lineLength (bandsIn m) → accepts m ≡ true
+pub accepts-is : (m : List ℤ) → countAllowed (heldIn m .count) ≡ true → length m ≡ memoryLength (bandsIn m) → ltZ (heldIn m .position) (pos 0) ≡ false →
+    natAbs (heldIn m .position) < lineLength (bandsIn m) → accepts m ≡ true
 unfolding allHold
 accepts-is m c l n h =
-    rw (c, eq-eqb (length m) (memoryLength (bandsIn m)) l, n, lt-ltb (natAbs (positionIn m)) (lineLength (bandsIn m)) h)
+    rw (c, eq-eqb (length m) (memoryLength (bandsIn m)) l, n, lt-ltb (natAbs (heldIn m .position)) (lineLength (bandsIn m)) h)
 
 -- ---- how judging tells it
 

@@ -1,128 +1,174 @@
--- A sample's output, and a block's samples one after the other. Assumes nothing.
-use mathlib.Core.Path.{_≡_, refl, sym, ap, ap₂, subst, _∙_}
-use mathlib.Core.List.{List, [], _∷_, _++_, append-nil}
+-- A block's samples, row after row. Assumes nothing.
+use mathlib.Core.Path.{_≡_, refl, sym, ap, ap₂, _∙_}
 use mathlib.Core.Bool.{Bool, true, false, cond}
-use Prim.Native.Nat.{ℕ, _+_, _-_, _*_, _≤_, _<_}
-use native.Mathlib.Numerals.{add-one}
+use mathlib.Core.List.{List, [], _∷_, _++_, append-assoc, append-nil}
+use Prim.Native.Nat.{ℕ, suc, _+_, _-_, _*_, _^_, _≤_, _<_}
 use native.Mathlib.Omega.{arith}
 use borrow.Author.Tests.{lt-ltb, le-ltb, ltb-true}
-use lib.Dec.{ltb, lit<, lit≤}
-use lib.ListN.{length, getD, take, drop, set, length-set, drop-of-length-le}
-use lib.Seq.{drop-cons, take-suc-set, append-snoc, take-all}
-use lib.IntN.{ℤ, pos, _-ℤ_, _*ℤ_}
-use mir.Syntax.{w32, w64}
-use mir.Val.{SFits}
-use mir.Facts.{toZ-ofZ}
-use Rattle.whole.specs.Nearest.{nearest}
-use Rattle.answers.specs.Unit.{leastSample, mostSample, unity}
-use Rattle.whole.specs.Limit.{limit}
-use Rattle.whole.proofs.Signed.{var, lit, _⊖_, _⊗_, eq-by, about}
-use Rattle.whole.proofs.Limit.{limit24-fits}
-use Rattle.whole.proofs.Rounded.{raw, nearest-fits}
-use Rattle.tree.specs.Prototype.{Prototype, published}
-use Rattle.octave.specs.Step.{step}
-use Rattle.octave.specs.Run.{next, outOf, Ran, answered, run}
-use Rattle.octave.specs.Helpers.{Region, StepDone, Answered, AnsweredUnder, RunDone}
+use borrow.Rule.Slice.PartMut.{putMid, same-len-mid}
+use lib.Dec.{ltb, lit≤}
+use lib.ListN.{length, take, drop, length-drop, length-append, take-append-drop, drop-of-length-le}
+use lib.Seq.{drop-drop, length-take-le, take-all, take-at}
+use lib.IntN.{ℤ, pos}
+use Rattle.tree.specs.Prototype.{published}
+use Rattle.lines.specs.Cascade.{Ran, run}
+use Rattle.lines.specs.Rows.{rowPlaces, wrapped, rowed, columns}
+use Rattle.lines.specs.Helpers.{Centred, Region, RowRegion, RowsDone}
+use Rattle.lines.proofs.Interchange.{rows-count, rows-even}
+use Rattle.lines.proofs.Turns.{turn}
+use Rattle.octave.specs.Weighing.{outOf, bandSum, outputs}
+use Rattle.octave.specs.Helpers.{Differ, RowWeighed, RowAnswered, RunDone}
 
--- ---- one sample
+-- the rings hold the prototype in use
+pub published-centred : Centred published
+published-centred = record { reach = lit≤ tt; some = lit≤ tt }
 
-no-gain-above : (s a : ℤ) {h : ℤ} → h ≡ pos 0 → s -ℤ h *ℤ a ≡ s
-no-gain-above s a {h} e = rw e (eq-by (var s ⊖ lit 0 ⊗ var a) (var s) (omega arith))
+-- ---- the position
 
-pub answer-is : (bands size at : ℕ) (ds lines ys : List ℤ) (x s n r : ℤ) → bands ≤ 10 →
-    StepDone published bands size at 1 ds lines x ys s → n ≡ nearest unity (raw w64 s) → r ≡ limit leastSample mostSample (raw w64 n) →
-    AnsweredUnder published bands size at ds lines x ys (raw w32 r)
-unfolding answered
-answer-is bands size at ds lines ys x s n r few d en er =
-    let s-back : raw w64 s ≡ s = toZ-ofZ (record { sfits = omega (arith, about s, d .bounded) }) in
-    let n-is : n ≡ nearest unity s = en ∙ ap (nearest unity) s-back in
-    let n-back : raw w64 n ≡ n = toZ-ofZ (rw n-is (nearest-fits 4096 (lit< tt) (lit≤ tt) s (omega (arith, d .bounded)))) in
-    let r-is : r ≡ outOf s = er ∙ ap (limit leastSample mostSample) (n-back ∙ n-is) in
-    record {
-      under = λ g q top. record {
-        places-are = d .places-are g;
-        sample-is = toZ-ofZ (rw r-is (limit24-fits (nearest unity s))) ∙ r-is ∙ ap outOf (d .sum-is g q ∙ no-gain-above (step published bands size at 1 g lines x .sum) (step published bands size at 1 g lines x .aligned) top);
-      };
-    }
+pub wrapped-in : (size at : ℕ) → at < size → at ≡ wrapped size at
+wrapped-in size at h = rw (lt-ltb at size h)
 
-pub next-in : (size at : ℕ) → at + 1 < size → at + 1 ≡ next size at
-next-in size at h = rw (lt-ltb (at + 1) size h)
+pub wrapped-round : (size at : ℕ) → size ≤ at → 0 ≡ wrapped size at
+wrapped-round size at h = rw (le-ltb at size h)
 
-pub next-round : (size at : ℕ) → size ≤ at + 1 → 0 ≡ next size at
-next-round size at h = rw (le-ltb (at + 1) size h)
-
-pub next-inside : (size at : ℕ) → at < size → next size at < size
-next-inside size at h = by (ltb (at + 1) size) refl
+pub wrapped-inside : (size at : ℕ) → 0 < size → wrapped size at < size
+wrapped-inside size at h = by (ltb at size) refl
   where
-    by : (t : Bool) → ltb (at + 1) size ≡ t → cond t (at + 1) 0 < size
-    by true e = ltb-true (at + 1) size e
-    by false e = omega arith
+    by : (t : Bool) → ltb at size ≡ t → cond t at 0 < size
+    by true e = ltb-true at size e
+    by false e = h
 
--- the sample and the output as the machine hands them on
-pub answered-of-raw : (bands size at : ℕ) (g : ℕ → ℤ) (lines ys : List ℤ) {x y : ℤ} → SFits w32 x → SFits w32 y →
-    Answered (answered published bands size at g lines (raw w32 x)) ys y → Answered (answered published bands size at g lines x) ys (raw w32 y)
-answered-of-raw bands size at g lines ys {x} {y} fx fy a =
-    rw (toZ-ofZ fy) (subst (λ (z : ℤ). Answered (answered published bands size at g lines z) ys y) (toZ-ofZ fx) a)
+-- ---- the outputs of rows one after the other
+
+outputs-append : (g : ℕ → ℤ) (xs ys : List (List ℤ)) → outputs (λ _. g) (xs ++ ys) ≡ outputs (λ _. g) xs ++ outputs (λ _. g) ys
+unfolding outputs
+outputs-append g [] ys = refl
+outputs-append g (a ∷ xs) ys = ap (λ (l : List ℤ). outOf (bandSum g a) ∷ l) (outputs-append g xs ys)
+
+-- a part put in its place ends where the part does
+take-put-end : (i n : ℕ) (xs ys : List ℤ) → i ≤ length xs → length ys ≡ n → take (i + n) (putMid i n xs ys) ≡ take i xs ++ ys
+take-put-end i n xs ys h e =
+    ap (take (i + n)) (sym (append-assoc (take i xs) ys (drop n (drop i xs)))) ∙
+    take-at (take i xs ++ ys) (drop n (drop i xs)) (i + n) (length-append (take i xs) ys ∙ ap₂ _+_ (length-take-le i xs h) e)
+
+-- ---- a row
+
+-- what the matrix shows is what is weighed
+pub row-answered : (bands size at : ℕ) (lines xs : List ℤ) {ds ys matrix outs : List ℤ} → 1 ≤ bands → length outs ≡ length xs →
+    RowsDone (rowed published size (bands - 1) 1 at lines xs) (length xs) ys matrix → RowWeighed bands matrix ds outs →
+    RowAnswered bands (rowed published size (bands - 1) 1 at lines xs) ds ys outs
+row-answered bands size at lines xs some e d w =
+    let R = rowed published size (bands - 1) 1 at lines xs in
+    let count : length (R .rows) ≡ bands = rows-count published size (bands - 1) 1 at lines xs ∙ suc-less bands some in
+    record {
+      places-are = d .places-are;
+      under = λ g q top. w .under g (R .rows) q top count (rw e (rows-even published size (bands - 1) 1 at lines xs)) (rw e (d .shown));
+    }
+  where
+    suc-less : (n : ℕ) → 1 ≤ n → suc (n - 1) ≡ n
+    suc-less n h = omega arith
 
 -- ---- the loop
 
--- a region at another position, with other signal
-pub region-moved : {p : Prototype} {bands size from at L : ℕ} {lines lines' : List ℤ} → at < size → length lines' ≡ length lines →
-    Region p bands size from L lines → Region p bands size at L lines'
-region-moved h e r =
-    record { some = r .some; few = r .few; inside = h; sized = r .sized; whole = e ∙ r .whole; small = r .small }
+-- what has been written and what a run gives from there
+record Went : Type 0 where
+  pub places : List ℤ
+  pub position : ℕ
+  pub outs : List ℤ
+
+abbrev went : (ℕ → ℤ) → List ℤ → Ran → Went
+went g done r = record { places = r .places; position = r .position; outs = done ++ outputs (λ _. g) (r .aligned) }
+
+-- a row more is written: `r` was what the rest gave before it, `r'` what it gives behind it
+went-on : (g : ℕ → ℤ) (done outs : List ℤ) (cols : List (List ℤ)) (t : Ran) {written : List ℤ} {r r' : Ran} {whole : Went} → written ≡ done ++ outs → outs ≡ outputs (λ _. g) cols → r' ≡ t →
+    r ≡ record { places = t .places; position = t .position; aligned = cols ++ t .aligned } → went g done r ≡ whole → went g written r' ≡ whole
+went-on g done outs cols t w o e b rest =
+    ap₂ (λ (l : List ℤ) (q : Ran). went g l q) w e ∙
+    ap (λ (l : List ℤ). record { places = t .places; position = t .position; outs = l }) joined ∙
+    ap (went g done) (sym b) ∙ rest
+  where
+    joined : (done ++ outs) ++ outputs (λ _. g) (t .aligned) ≡ done ++ outputs (λ _. g) (cols ++ t .aligned)
+    joined =
+        append-assoc done outs (outputs (λ _. g) (t .aligned)) ∙
+        ap (λ (l : List ℤ). done ++ l) (ap (λ (l : List ℤ). l ++ outputs (λ _. g) (t .aligned)) o ∙ sym (outputs-append g cols (t .aligned)))
 
 -- up to sample i the outputs are written; what the rest gives from here is what the whole run gives
-pub record Going (bands size from : ℕ) (g : ℕ → ℤ) (lines₀ input output₀ lines output : List ℤ) (at i : ℕ) : Type 0 where
+pub record Going (bands size from : ℕ) (g : ℕ → ℤ) (lines₀ input output₀ lines output rows : List ℤ) (at i : ℕ) : Type 0 where
   pub inside : at < size
   pub reached : i ≤ length input
   pub same-lines : length lines ≡ length lines₀
   pub same-output : length output ≡ length output₀
-  pub places-rest : run published bands size g lines at (drop i input) .places ≡ run published bands size g lines₀ from input .places
-  pub position-rest : run published bands size g lines at (drop i input) .position ≡ run published bands size g lines₀ from input .position
-  pub outputs-rest : take i output ++ run published bands size g lines at (drop i input) .outputs ≡ run published bands size g lines₀ from input .outputs
+  pub ten-rows : length rows ≡ 320
+  pub rest : went g (take i output) (run published size (bands - 1) at lines (drop i input)) ≡ went g [] (run published size (bands - 1) from lines₀ input)
 
-pub going-starts : (bands size from : ℕ) (g : ℕ → ℤ) (lines input output : List ℤ) → from < size → Going bands size from g lines input output lines output from 0
-going-starts bands size from g lines input output h =
-    record { inside = h; reached = omega arith; same-lines = refl; same-output = refl; places-rest = refl; position-rest = refl; outputs-rest = refl }
+pub going-starts : (bands size from : ℕ) (g : ℕ → ℤ) (lines input output rows : List ℤ) → from < size → length rows ≡ 320 → Going bands size from g lines input output lines output rows from 0
+going-starts bands size from g lines input output rows h e =
+    record { inside = h; reached = omega arith; same-lines = refl; same-output = refl; ten-rows = e; rest = refl }
 
-module _ (bands size from : ℕ) (g : ℕ → ℤ) (lines₀ input output₀ lines output : List ℤ) (at i : ℕ)
-    (going : Going bands size from g lines₀ input output₀ lines output at i) where
-  pub going-on : (ys : List ℤ) (y : ℤ) → i < length input → length output₀ ≡ length input → length ys ≡ length lines →
-      Answered (answered published bands size at g lines (getD input i (pos 0))) ys y →
-      Going bands size from g lines₀ input output₀ ys (set output i y) (next size at) (i + 1)
-  unfolding run
-  going-on ys y h lo ly a =
-      let x = getD input i (pos 0) in
-      let here : run published bands size g lines at (drop i input) ≡ run published bands size g lines at (x ∷ drop (i + 1) input) =
-      ap (run published bands size g lines at) (drop-cons input i (pos 0) h ∙ ap (λ (k : ℕ). x ∷ drop k input) (sym (add-one i))) in
-      let r = run published bands size g (answered published bands size at g lines x .places) (next size at) (drop (i + 1) input) in
-      let same : run published bands size g ys (next size at) (drop (i + 1) input) ≡ r =
-      ap (λ (l : List ℤ). run published bands size g l (next size at) (drop (i + 1) input)) (a .places-are) in
+module _ {bands size from : ℕ} {g : ℕ → ℤ} {lines₀ input output₀ lines output rows : List ℤ} {at i : ℕ}
+    (going : Going bands size from g lines₀ input output₀ lines output rows at i) (region : Region published bands size 1 lines₀)
+    (alike : length output₀ ≡ length input) where
+  -- n samples from i on
+  abbrev part : ℕ → List ℤ
+  part n = take (i + n - i) (drop i input)
+
+  less : (n : ℕ) → i + n - i ≡ n
+  less n = omega arith
+
+  pub part-length : (n : ℕ) → n ≤ length input - i → length (part n) ≡ n
+  part-length n h = rw (less n) (length-take-le n (drop i input) (simp length-drop h))
+
+  pub out-length : (n : ℕ) → n ≤ length input - i → length (take (i + n - i) (drop i output)) ≡ length (part n)
+  out-length n h =
+      rw (part-length n h, less n) (length-take-le n (drop i output) (rw (length-drop i output, going .same-output, alike) h))
+
+  pub row-region : (n : ℕ) → n ≤ rowPlaces → n ≤ length input - i → at + n ≤ size → RowRegion published bands size at 1 lines (part n) rows
+  row-region n short left before =
       record {
-        inside = next-inside size at (going .inside);
-        reached = omega arith;
-        same-lines = ly ∙ going .same-lines;
-        same-output = length-set output i y ∙ going .same-output;
-        places-rest = ap (λ (q : Ran). q .places) same ∙ sym (ap (λ (q : Ran). q .places) here) ∙ going .places-rest;
-        position-rest = ap (λ (q : Ran). q .position) same ∙ sym (ap (λ (q : Ran). q .position) here) ∙ going .position-rest;
-        outputs-rest =
-            ap₂ (λ (l k : List ℤ). l ++ k) (ap (λ (k : ℕ). take k (set output i y)) (add-one i) ∙ take-suc-set output i y (omega (arith, going .same-output))) (ap (λ (q : Ran). q .outputs) same) ∙
-            ap (λ (z : ℤ). (take i output ++ (z ∷ [])) ++ r .outputs) (a .sample-is) ∙
-            append-snoc (take i output) (answered published bands size at g lines x .sample) (r .outputs) ∙
-            ap (λ (q : Ran). take i output ++ q .outputs) (sym here) ∙ going .outputs-rest;
+        region = record { some = region .some; few = region .few; stretch = region .stretch; sized = region .sized; whole = going .same-lines ∙ region .whole; small = region .small };
+        short = rw (part-length n left) short;
+        before-end = rw (part-length n left) before;
+        room = omega (arith, going .ten-rows, region .few);
       }
 
-  pub going-ends : length input ≤ i → length output₀ ≡ length input →
-      RunDone (run published bands size g lines₀ from input) lines at output
-  unfolding run
-  going-ends h lo =
-      let none : run published bands size g lines at (drop i input) ≡ record { places = lines; position = at; outputs = [] } =
-      ap (run published bands size g lines at) (drop-of-length-le input h) in
+  pub going-on : (n : ℕ) (ds ys rows' outs : List ℤ) → n ≤ length input - i → at + n ≤ size →
+      length ys ≡ length lines → length rows' ≡ length rows → length outs ≡ length (take (i + n - i) (drop i output)) →
+      Differ bands g ds → g (suc bands) ≡ pos 0 → RowAnswered bands (rowed published size (bands - 1) 1 at lines (part n)) ds ys outs →
+      Going bands size from g lines₀ input output₀ ys (putMid i (i + n - i) output outs) rows' (wrapped size (at + n)) (i + n)
+  going-on n ds ys rows' outs left before ly lr lo q top d =
+      let k = bands - 1 in
+      let xs = part n in
+      let later = drop (i + n) input in
+      let R = rowed published size k 1 at lines xs in
+      let T = run published size k (wrapped size (at + n)) (R .places) later in
+      let split : drop i input ≡ xs ++ later = rw (less n, ← (drop-drop n i input)) (sym (take-append-drop n (drop i input))) in
+      let reach : 9 * (1 * 2 ^ (bands - 1)) ≤ size = omega (arith, region .sized) in
+      let by-row = turn published size published-centred k at lines xs later reach (going .same-lines ∙ region .whole) (going .inside) (rw (part-length n left) before) in
+      let here : run published size k at lines (drop i input) ≡ record { places = T .places; position = T .position; aligned = columns (R .rows) ++ T .aligned } =
+      ap (run published size k at lines) split ∙ rw (part-length n left) at by-row in
+      let many : length outs ≡ n = lo ∙ out-length n left ∙ part-length n left in
+      let put : take (i + n) (putMid i (i + n - i) output outs) ≡ take i output ++ outs =
+      ap (λ (m : ℕ). take (i + n) (putMid i m output outs)) (less n) ∙ take-put-end i n output outs (omega (arith, going .same-output, going .reached)) many in
+      let same : run published size k (wrapped size (at + n)) ys later ≡ T = ap (λ (l : List ℤ). run published size k (wrapped size (at + n)) l later) (d .places-are) in
       record {
-        places-are = sym (ap (λ (q : Ran). q .places) none) ∙ going .places-rest;
-        position-is = sym (ap (λ (q : Ran). q .position) none) ∙ going .position-rest;
-        outputs-are =
-            sym (take-all i output (omega (arith, going .same-output))) ∙ sym (append-nil (take i output)) ∙
-            sym (ap (λ (q : Ran). take i output ++ q .outputs) none) ∙ going .outputs-rest;
+        inside = wrapped-inside size (at + n) (omega (arith, going .inside));
+        reached = omega (arith, going .reached);
+        same-lines = ly ∙ going .same-lines;
+        same-output = same-len-mid i (i + n - i) output outs lo ∙ going .same-output;
+        ten-rows = lr ∙ going .ten-rows;
+        rest = went-on g (take i output) outs (columns (R .rows)) T put (d .under g q top) same here (going .rest);
+      }
+
+  pub going-ends : length input ≤ i → RunDone (run published size (bands - 1) from lines₀ input) g lines at output
+  unfolding run outputs
+  going-ends h =
+      let none : run published size (bands - 1) at lines (drop i input) ≡ record { places = lines; position = at; aligned = [] } =
+      ap (run published size (bands - 1) at lines) (drop-of-length-le input h) in
+      let written : output ≡ take i output ++ [] = sym (take-all i output (omega (arith, going .same-output))) ∙ sym (append-nil (take i output)) in
+      let all : record { places = lines; position = at; outs = output } ≡ went g [] (run published size (bands - 1) from lines₀ input) =
+      ap (λ (l : List ℤ). record { places = lines; position = at; outs = l }) written ∙ ap (went g (take i output)) (sym none) ∙ going .rest in
+      record {
+        places-are = ap (λ (w : Went). w .places) all;
+        position-is = ap (λ (w : Went). w .position) all;
+        outputs-are = ap (λ (w : Went). w .outs) all;
       }

@@ -9,7 +9,7 @@ use Rattle.answers.specs.Range.{allWithin}
 use Rattle.answers.specs.Unit.{largestGain}
 use Rattle.whole.specs.Sum.{sum}
 use Rattle.lines.specs.Cascade.{Ran}
-use Rattle.lines.specs.Rows.{rowPlaces, Shown, columns, Even}
+use Rattle.lines.specs.Rows.{rowPlaces, Rowed, Shown, columns, Even}
 use Rattle.octave.specs.Memory.{bandsIn, accepts}
 use Rattle.octave.specs.Weighing.{outputs}
 
@@ -30,9 +30,13 @@ pub record Small (differences : List ℤ) : Type 0 where
 
 -- ---- the rows weighed
 
--- the gain sum of sample i by differences (rule 3.13): line bands - k stands in row k. |r| ≤ bands·2^46 for any places (rule 5.12)
+-- the gain sum of sample i by differences (rule 3.13): the first n of the bands, the top one first; line bands - k stands in row k
+abbrev pub gainSum : (n bands i : ℕ) (matrix differences : List ℤ) → ℤ
+gainSum n bands i matrix differences = sum n (λ k. getD differences (bands - 1 - k) (pos 0) *ℤ getD matrix (rowPlaces * k + i) (pos 0))
+
+-- .. of all bands. |r| ≤ bands·2^46 for any places (rule 5.12)
 pub record SumDone (bands i : ℕ) (matrix differences : List ℤ) (r : ℤ) : Type 0 where
-  pub value : r ≡ sum bands (λ k. getD differences (bands - 1 - k) (pos 0) *ℤ getD matrix (rowPlaces * k + i) (pos 0))
+  pub value : r ≡ gainSum bands bands i matrix differences
   pub bounded : natAbs r ≤ bands * 2 ^ 46
 
 -- for any gains g with these differences and g(bands+1) = 0, the outputs of the rows that the matrix shows
@@ -41,6 +45,11 @@ pub record RowWeighed (bands : ℕ) (matrix differences outs : List ℤ) : Type 
       Shown (length outs) rows matrix → outs ≡ outputs (λ _. g) (columns rows)
 
 -- ---- the run
+
+-- a row's places, and its outputs for any gains g with these differences and g(bands+1) = 0
+pub record RowAnswered (bands : ℕ) (r : Rowed) (differences places outs : List ℤ) : Type 0 where
+  pub places-are : places ≡ r .places
+  pub under : (g : ℕ → ℤ) → Differ bands g differences → g (suc bands) ≡ pos 0 → outs ≡ outputs (λ _. g) (columns (r .rows))
 
 -- the samples' places, position and outputs
 pub record RunDone (r : Ran) (g : ℕ → ℤ) (places : List ℤ) (position : ℕ) (outs : List ℤ) : Type 0 where

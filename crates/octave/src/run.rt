@@ -5,9 +5,9 @@ ghost use lib.ListN.{length};
 ghost use Rattle.tree.specs.Prototype.{published};
 ghost use Rattle.tree.specs.Signal.{gainOf};
 ghost use Rattle.lines.specs.Cascade.{run};
-ghost use Rattle.lines.specs.Rows.{rowPlaces, wrapped};
-ghost use Rattle.lines.specs.Helpers.{Region};
-ghost use Rattle.octave.specs.Helpers.{Allowed, RunDone};
+ghost use Rattle.lines.specs.Rows.{rowPlaces, wrapped, rowed};
+ghost use Rattle.lines.specs.Helpers.{Region, RowRegion};
+ghost use Rattle.octave.specs.Helpers.{Allowed, Small, RowAnswered, RunDone};
 use crate::differences::differences;
 use crate::weighing::weigh_rows;
 use lines::cascade::ROW;
@@ -36,6 +36,24 @@ fn wrapped(size: usize, at: usize) -> usize
     0
 }
 
+// A row through the lines, and its outputs.
+fn answer_row(
+    lines: &mut [i32],
+    size: usize,
+    at: usize,
+    bands: usize,
+    differences: &[i32; 10],
+    input: &[i32],
+    rows: &mut [i32],
+    output: &mut [i32],
+)
+    requires { ⌜ RowRegion published bands size at 1 (now lines) (now input) (now rows) × Small (now differences) × (length (now output) ≡ length (now input)) ⌝ }
+    ensures { λ _. ⌜ RowAnswered bands (rowed published size (bands - 1) 1 at (now (lines .entry)) (now (input .entry))) (now (differences .entry)) (now (lines .exit)) (now (output .exit)) ⌝ }
+{
+    cascade(lines, size, at, 1, bands, input, rows);
+    weigh_rows(rows, bands, differences, output);
+}
+
 // Every sample of the block, from the position `from`; answers the position afterwards.
 pub(crate) fn run(
     lines: &mut [i32],
@@ -56,8 +74,16 @@ pub(crate) fn run(
     while i < input.len() {
         let n = row_length(size, at, input.len() - i);
         let end = i + n;
-        cascade(lines, size, at, 1, bands, &input[i..end], &mut rows);
-        weigh_rows(&rows, bands, &differences, &mut output[i..end]);
+        answer_row(
+            lines,
+            size,
+            at,
+            bands,
+            &differences,
+            &input[i..end],
+            &mut rows,
+            &mut output[i..end],
+        );
         at = wrapped(size, at + n);
         i = end;
     }

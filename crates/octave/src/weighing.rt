@@ -1,5 +1,4 @@
 // The aligned rows of the lines weighed with the gain differences: the gain sum, rounded once and limited once. Gains enter here alone.
-ghost use mathlib.Core.Path.{_≡_};
 ghost use Prim.Native.Nat.{_≤_, _<_, _*_};
 ghost use lib.ListN.{length};
 ghost use Rattle.lines.specs.Rows.{rowPlaces};

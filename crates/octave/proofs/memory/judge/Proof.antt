@@ -16,7 +16,7 @@ use Rattle.answers.specs.Unit.{fewestBands, mostBands}
 use Rattle.answers.proofs.Laws.{chosen-here, chosen-on, chosen-last}
 use Rattle.answers.proofs.Branches.{branches, within-is}
 use Rattle.octave.specs.declared.memory.Kept.the-variants.{Bands}
-use Rattle.octave.specs.Memory.{lineLength, memoryLength, countAllowed, bandsIn, positionIn, positionWithin}
+use Rattle.octave.specs.Memory.{lineLength, memoryLength, countAllowed, bandsIn, heldIn, positionWithin}
 use Rattle.octave.proofs.Ranges.{Count, count-of}
 use Rattle.octave.proofs.Memories.{not-negative}
 use Rattle.octave.proofs.memory.judge.Statement.{statement}
@@ -99,7 +99,7 @@ returns-4 : tie.Need-returns-4
 unfolding the
 returns-4 c =
     let m = the (c .before .before .before .before) in
-    let outside : positionWithin (lineLength (bandsIn m)) (positionIn m) ≡ false = rw (rw (toZ-ofZ (at-fits (c .before))) at (c .if4 .taken)) in
+    let outside : positionWithin (lineLength (bandsIn m)) (heldIn m .position) ≡ false = rw (rw (toZ-ofZ (at-fits (c .before))) at (c .if4 .taken)) in
     let e = allowed (c .before .before .before .before) in
     let l = right (c .before .before) in
     search (chosen-here, chosen-on, branches) depth 12
@@ -114,15 +114,15 @@ cast-if5 : tie.Need-cast-if5
 unfolding the
 cast-if5 c =
     let f = at-fits (c .before .before) in
-    rw (toZ-ofZ f) (not-negative (positionIn (the (c .before .before .before .before .before))) (not-below (c .before)), fits-natAbs tt f)
+    rw (toZ-ofZ f) (not-negative (heldIn (the (c .before .before .before .before .before)) .position) (not-below (c .before)), fits-natAbs tt f)
 
 returns-5 : tie.Need-returns-5
 unfolding the
 returns-5 c =
     let m = the (c .before .before .before .before .before .before) in
     let past = rw (toZ-ofZ (at-fits (c .before .before .before)), size-is (c .before)) at (c .if5 .taken) in
-    let outside : positionWithin (lineLength (bandsIn m)) (positionIn m) ≡ false =
-    rw (not-below (c .before .before), le-ltb (natAbs (positionIn m)) (lineLength (bandsIn m)) past) in
+    let outside : positionWithin (lineLength (bandsIn m)) (heldIn m .position) ≡ false =
+    rw (not-below (c .before .before), le-ltb (natAbs (heldIn m .position)) (lineLength (bandsIn m)) past) in
     let e = allowed (c .before .before .before .before .before .before) in
     let l = right (c .before .before .before .before) in
     search (chosen-here, chosen-on, branches) depth 12
@@ -132,8 +132,8 @@ unfolding the
 returns-6 c =
     let m = the (c .before .before .before .before .before .before) in
     let inside = rw (toZ-ofZ (at-fits (c .before .before .before)), size-is (c .before)) at (c .if5 .left) in
-    let within : positionWithin (lineLength (bandsIn m)) (positionIn m) ≡ true =
-    rw (not-below (c .before .before), lt-ltb (natAbs (positionIn m)) (lineLength (bandsIn m)) inside) in
+    let within : positionWithin (lineLength (bandsIn m)) (heldIn m .position) ≡ true =
+    rw (not-below (c .before .before), lt-ltb (natAbs (heldIn m .position)) (lineLength (bandsIn m)) inside) in
     let e = allowed (c .before .before .before .before .before .before) in
     let l = right (c .before .before .before .before) in
     let is = ap (λ (z : ℤ). Bands (natAbs z)) (toZ-ofZ (count-fits (c .before .before .before .before .before .before))) in
