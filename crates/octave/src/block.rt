@@ -33,15 +33,7 @@ fn equalise(memory: &mut [i32], gains: &[i32], input: &[i32], output: &mut [i32]
 {
     let size = line_length(bands);
     let from = memory[POSITION] as usize;
-    let at = run(
-        &mut memory[HEAD..],
-        size,
-        from,
-        bands,
-        gains,
-        input,
-        output,
-    );
+    let at = run(&mut memory[HEAD..], size, from, bands, gains, input, output);
     memory[POSITION] = at as i32;
 }
 

@@ -1,10 +1,17 @@
 -- `run::answer_row` meets its contract. Assumes nothing.
 use mathlib.Core.Path.{_∙_}
+use native.Mathlib.Omega.{arith}
 use borrow.Author.Needs.{needs}
 use denote.Ref.{now}
 use Rattle.octave.proofs.Running.{row-answered}
 use Rattle.octave.proofs.run.answer_row.Statement.{statement}
 use Rattle.octave.proofs.run.answer_row.Tie as tie
+
+weigh-rows-requires : tie.Need-weigh-rows-requires
+weigh-rows-requires c κs =
+    let s = c .before .before .before .before .before .before .before in
+    let row = s .pre .0 in
+    (row .region .some, row .region .few, omega (arith, s .pre .2, row .short), omega (arith, c .before .before .before .before .cascade .kept .1 .1 .1 .1 .1 .1 .0, row .room), s .pre .1)
 
 returns : tie.Need-returns
 returns c =
@@ -17,4 +24,4 @@ returns c =
 pub answer-row-spec : {M : Type 1} → statement M
 answer-row-spec =
     tie.close
-    (tie.spec (λ c κs. search needs) (λ c κs. search needs) (λ c. search needs) (λ c. search needs) (λ c. search needs) returns)
+    (tie.spec (λ c κs. c .before .before .pre .0) weigh-rows-requires (λ c. search needs) (λ c. search needs) (λ c. search needs) returns)
