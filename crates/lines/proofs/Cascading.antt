@@ -5,13 +5,13 @@ use Prim.Native.Nat.{ℕ, zero, suc, _+_, _-_, _*_, _≤_, _<_}
 use native.Mathlib.Nat.{le-refl}
 use native.Mathlib.Omega.{arith}
 use lib.ListN.{length, take, drop, set, length-drop, drop-of-length-le}
-use lib.Seq.{drop-set-lt, take-all, drop-at, take-append-le, take-take, length-take-le}
+use lib.Seq.{drop-set-lt, take-all, drop-at, take-append-le, length-take-le}
 use lib.IntN.{ℤ}
 use borrow.Rule.Slice.PartMut.{putMid}
 use Rattle.tree.specs.Prototype.{Prototype}
 use Rattle.lines.specs.Rows.{rowPlaces, line, rowed, Shown}
 use Rattle.lines.specs.Helpers.{LineDone, RowRegion, RowsDone}
-use Rattle.lines.proofs.Interchange.{line-length, low-length}
+use Rattle.lines.proofs.Interchange.{line-length}
 use Rattle.lines.proofs.Regions.{less-one, less-two, held-of, behind-it, region-same}
 
 -- what is lent on is what stands behind; what comes back is put there
@@ -23,53 +23,51 @@ put-is k m ys h =
     ap (λ (l : List ℤ). take k m ++ (ys ++ l)) (drop-of-length-le (drop k m) {i = length m - k} (simp length-drop (omega arith))) ∙
     ap (λ (l : List ℤ). take k m ++ l) (append-nil ys)
 
-module _ (p : Prototype) (size at L : ℕ) (lines x matrix : List ℤ) where
+module _ (p : Prototype) (size at L n : ℕ) (lines matrix : List ℤ) where
   -- a line's run leaves what stands behind it
   line-drop : (at : ℕ) (lines xs : List ℤ) → at + length xs ≤ size → drop size (line p size L at lines xs .places) ≡ drop size lines
   unfolding line
   line-drop at lines [] h = refl
   line-drop at lines (x ∷ xs) h = line-drop (suc at) (set lines at x) xs (omega arith) ∙ drop-set-lt size lines at x (omega arith)
 
-  pub region-below : (bands : ℕ) (ls low rs : List ℤ) → (bands ≡ 1 → ⊥) → RowRegion p bands size at L lines x matrix →
-      length ls ≡ length lines → length rs ≡ length matrix → length x ≤ length low →
-      RowRegion p (bands - 1) size at (2 * L) (take (length ls - size) (drop size ls)) (take (length x) low) (take (length rs - rowPlaces) (drop rowPlaces rs))
-  region-below zero ls low rs more r el er h = absurd (omega (arith, r .region .some))
-  region-below (suc zero) ls low rs more r el er h = absurd (more refl)
-  region-below (suc (suc b)) ls low rs more r el er h =
-      let n : length (take (length x) low) ≡ length x = length-take-le (length x) low h in
+  pub region-below : (bands : ℕ) (ls rs : List ℤ) → (bands ≡ 1 → ⊥) → RowRegion p bands size at L n lines matrix → length ls ≡ length lines → length rs ≡ length matrix →
+      RowRegion p (bands - 1) size at (2 * L) n (take (length ls - size) (drop size ls)) (take (length rs - rowPlaces) (drop rowPlaces rs))
+  region-below zero ls rs more r el er = absurd (omega (arith, r .region .some))
+  region-below (suc zero) ls rs more r el er = absurd (more refl)
+  region-below (suc (suc b)) ls rs more r el er =
       rw (rest-is size ls, rest-is rowPlaces rs, less-one b)
       (record {
         region = behind-it p size L ls b (region-same el (r .region));
-        short = rw n (r .short);
-        before-end = rw n (r .before-end);
+        short = r .short;
+        before-end = r .before-end;
         room = rw (length-drop rowPlaces rs, er) (omega (arith, r .room));
       })
 
-  pub one-band : (bands : ℕ) (rs : List ℤ) → bands ≡ 1 → take (length x) rs ≡ x → RowsDone (rowed p size (bands - 1) L at lines x) (length x) lines rs
+  pub one-band : (bands : ℕ) → bands ≡ 1 → RowsDone (rowed p size (bands - 1) L at lines (take n matrix)) n lines matrix
   unfolding rowed Shown
-  one-band bands rs e k = rw e (record { places-are = refl; shown = (k, tt) })
+  one-band bands e = rw e (record { places-are = refl; shown = (refl, tt) })
 
-  pub joined : (bands : ℕ) (ls low₀ low late₀ rs ys zs : List ℤ) → (bands ≡ 1 → ⊥) → RowRegion p bands size at L lines x matrix → length rs ≡ length matrix →
-      length x ≤ length low →
-      LineDone (line p size L at lines x) 0 (length x) low₀ late₀ ls low rs →
-      RowsDone (rowed p size (bands - 1 - 1) (2 * L) at (take (length ls - size) (drop size ls)) (take (length x) low)) (length (take (length x) low)) ys zs →
-      RowsDone (rowed p size (bands - 1) L at lines x) (length x) (putMid size (length ls - size) ls ys) (putMid rowPlaces (length rs - rowPlaces) rs zs)
+  pub joined : (bands : ℕ) (ls rs ys zs : List ℤ) → (bands ≡ 1 → ⊥) → RowRegion p bands size at L n lines matrix → length rs ≡ length matrix →
+      LineDone (line p size L at lines (take n matrix)) 0 n matrix ls rs →
+      RowsDone (rowed p size (bands - 1 - 1) (2 * L) at (take (length ls - size) (drop size ls)) (take n (take (length rs - rowPlaces) (drop rowPlaces rs)))) n ys zs →
+      RowsDone (rowed p size (bands - 1) L at lines (take n matrix)) n (putMid size (length ls - size) ls ys) (putMid rowPlaces (length rs - rowPlaces) rs zs)
   unfolding rowed Shown
-  joined zero ls low₀ low late₀ rs ys zs more r er h l d = absurd (omega (arith, r .region .some))
-  joined (suc zero) ls low₀ low late₀ rs ys zs more r er h l d = absurd (more refl)
-  joined (suc (suc b)) ls low₀ low late₀ rs ys zs more r er h l d =
+  joined zero ls rs ys zs more r er l d = absurd (omega (arith, r .region .some))
+  joined (suc zero) ls rs ys zs more r er l d = absurd (more refl)
+  joined (suc (suc b)) ls rs ys zs more r er l d =
+      let x = take n matrix in
       let q = line p size L at lines x in
-      let n : length (take (length x) low) ≡ length x = length-take-le (length x) low h in
+      let count : length x ≡ n = length-take-le n matrix (omega (arith, r .room, r .short)) in
       let long : length ls ≡ length lines = ap length (l .places-are) ∙ line-length p size L at lines x in
       let held : size ≤ length ls = rw long (held-of p size L lines b (r .region)) in
-      let behind : drop size ls ≡ drop size lines = ap (drop size) (l .places-are) ∙ line-drop at lines x (r .before-end) in
+      let behind : drop size ls ≡ drop size lines = ap (drop size) (l .places-are) ∙ line-drop at lines x (rw count (r .before-end)) in
       let full : length (take rowPlaces rs) ≡ rowPlaces = length-take-le rowPlaces rs (omega (arith, r .room)) in
-      let below : RowsDone (rowed p size b (2 * L) at (drop size lines) (q .low)) (length x) ys zs = rw (less-two b, n, rest-is size ls, behind, l .low-is) at d in
+      let below : RowsDone (rowed p size b (2 * L) at (drop size lines) (q .low)) n ys zs = rw (less-two b, rest-is size ls, rest-is rowPlaces rs, behind, l .low-is) at d in
       rw (less-one b, put-is size ls ys held, put-is rowPlaces rs zs (omega (arith, r .room)))
       (record {
         places-are = ap₂ (λ (u v : List ℤ). take size u ++ v) (l .places-are) (below .places-are);
         shown = (
-          take-append-le (length x) (take rowPlaces rs) zs (rw full (r .short)) ∙ take-take (length x) rowPlaces rs (r .short) ∙ l .late-is,
-          subst (λ (m : List ℤ). Shown (length x) (rowed p size b (2 * L) at (drop size lines) (q .low) .rows) m) (sym (drop-at (take rowPlaces rs) zs rowPlaces full)) (below .shown),
+          take-append-le n (take rowPlaces rs) zs (rw full (r .short)) ∙ l .late-is,
+          subst (λ (m : List ℤ). Shown n (rowed p size b (2 * L) at (drop size lines) (q .low) .rows) m) (sym (drop-at (take rowPlaces rs) zs rowPlaces full)) (below .shown),
         );
       })

@@ -1,12 +1,12 @@
--- One line over a row, sample by sample: what the rest gives from here is what the whole part gives. Over any prototype.
+-- One line over a row in place, sample by sample: what the rest gives from here is what the whole part gives. Over any prototype.
 -- Assumes nothing.
 use mathlib.Core.Path.{_≡_, refl, sym, ap, _∙_}
-use mathlib.Core.List.{List, [], _∷_, _++_, append-nil}
-use Prim.Native.Nat.{ℕ, zero, suc, _+_, _-_, _*_, _≤_, _<_}
-use native.Mathlib.Numerals.{add-one, unary-clauses}
+use mathlib.Core.List.{List, _++_, append-nil}
+use Prim.Native.Nat.{ℕ, suc, _+_, _*_, _≤_, _<_}
+use native.Mathlib.Numerals.{add-one}
 use native.Mathlib.Omega.{arith}
-use lib.ListN.{length, getD, take, set, length-set}
-use lib.Seq.{slice, slice-cons, slice-empty, take-suc-set, append-snoc, take-all, length-take-le}
+use lib.ListN.{length, getD, take, drop, set, length-set, length-drop}
+use lib.Seq.{slice, slice-cons, slice-empty, take-suc-set, append-snoc, getD-take, getD-drop, length-take-le, take-set-le, take-set-lt, drop-set-lt, drop-set-add, drop-drop}
 use lib.IntN.{ℤ, pos}
 use mir.Syntax.{w32}
 use mir.Val.{SFits}
@@ -14,99 +14,109 @@ use mir.Facts.{toZ-ofZ}
 use Rattle.whole.proofs.Rounded.{raw}
 use Rattle.tree.specs.Prototype.{Prototype}
 use Rattle.lines.specs.Line.{lowValue, lateValue}
-use Rattle.lines.specs.Rows.{Lined, line}
+use Rattle.lines.specs.Rows.{rowPlaces, Lined, line}
 use Rattle.lines.specs.Helpers.{Within, Part, LineDone}
 
 one-on : (at i : ℕ) → at + (i + 1) ≡ suc (at + i)
 one-on at i = omega arith
 
--- what stands once a line's run is written behind the i samples that stand
-abbrev left : ℕ → List ℤ → List ℤ → Lined → List ℤ × List ℤ × List ℤ
-left i low late l = (l .places, take i low ++ l .low, take i late ++ l .late)
+-- the two rows of a matrix that a line works in
+abbrev row : List ℤ → List ℤ
+row m = take rowPlaces m
 
-module _ (p : Prototype) (size at L from to : ℕ) (x lines₀ low₀ late₀ : List ℤ) where
-  pub record Going (lines low late : List ℤ) (i : ℕ) : Type 0 where
+abbrev below : List ℤ → List ℤ
+below m = drop rowPlaces m
+
+-- ---- a store in either row
+
+module _ (m : List ℤ) (i : ℕ) (y z : ℤ) (h : i < rowPlaces) where
+  row-stored : row (set (set m i z) (rowPlaces + i) y) ≡ set (row m) i z
+  row-stored = take-set-le rowPlaces (set m i z) (rowPlaces + i) y (omega arith) ∙ take-set-lt rowPlaces m i z h
+
+  below-stored : below (set (set m i z) (rowPlaces + i) y) ≡ set (below m) i y
+  below-stored = drop-set-add rowPlaces (set m i z) i y ∙ ap (λ (l : List ℤ). set l i y) (drop-set-lt rowPlaces m i z h)
+
+-- ---- the loop
+
+-- what stands once a line's run is written behind the i samples that stand
+abbrev left : ℕ → List ℤ → Lined → List ℤ × List ℤ × List ℤ
+left i m l = (l .places, take i (row m) ++ l .late, take i (below m) ++ l .low)
+
+module _ (p : Prototype) (size at L from to : ℕ) (lines₀ m₀ : List ℤ) where
+  pub record Going (lines m : List ℤ) (i : ℕ) : Type 0 where
     pub started : from ≤ i
     pub reached : i ≤ to
     pub same-lines : length lines ≡ length lines₀
-    pub same-low : length low ≡ length low₀
-    pub same-late : length late ≡ length late₀
-    pub rest : left i low late (line p size L (at + i) lines (slice i to x)) ≡ left from low₀ late₀ (line p size L (at + from) lines₀ (slice from to x))
+    pub same-matrix : length m ≡ length m₀
+    pub unread : drop i (row m) ≡ drop i (row m₀)
+    pub rest : left i m (line p size L (at + i) lines (slice i to (row m₀))) ≡ left from m₀ (line p size L (at + from) lines₀ (slice from to (row m₀)))
 
-  pub going-starts : from ≤ to → Going lines₀ low₀ late₀ from
-  going-starts h = record { started = omega arith; reached = h; same-lines = refl; same-low = refl; same-late = refl; rest = refl }
+  pub going-starts : from ≤ to → Going lines₀ m₀ from
+  going-starts h = record { started = omega arith; reached = h; same-lines = refl; same-matrix = refl; unread = refl; rest = refl }
 
-  module _ (lines low late : List ℤ) (i : ℕ) (g : Going lines low late i) where
-    -- a position of the part lies in its line
-    pub going-within : i < to → Part p lines₀ size at L from to → Within p lines size (at + i) L
-    going-within h q =
+  module _ (q : Part p lines₀ size at L from to m₀) (lines m : List ℤ) (i : ℕ) (g : Going lines m i) where
+    -- the position of a sample of the part lies in its line
+    pub going-within : i < to → Within p lines size (at + i) L
+    going-within h =
         record { inside = omega (arith, q .before-end); reach = q .reach; some = q .some; held = omega (arith, q .held, g .same-lines); small = q .small }
 
-    pub going-on : (y z : ℤ) → i < to → to ≤ length x → to ≤ length low₀ → to ≤ length late₀ → SFits w32 (getD x i (pos 0)) → SFits w32 y → SFits w32 z →
-        y ≡ lowValue p lines size (at + i) L (raw w32 (getD x i (pos 0))) → z ≡ lateValue p lines size (at + i) L →
-        Going (set lines (at + i) (raw w32 (getD x i (pos 0)))) (set low i (raw w32 y)) (set late i (raw w32 z)) (i + 1)
+    -- its low sample has a place in the second row
+    pub going-second : (z : ℤ) → i < to → rowPlaces + i < length (set m i z)
+    going-second z h = rw (length-set m i z) (omega (arith, q .room, q .short, g .same-matrix))
+
+    -- its value has not been written over
+    same-sample : i < to → getD m i (pos 0) ≡ getD (row m₀) i (pos 0)
+    same-sample h =
+        let here : i + 0 ≡ i = omega arith in
+        let at-start : (l : List ℤ) → getD (drop i l) 0 (pos 0) ≡ getD l i (pos 0) = λ l. getD-drop i l 0 (pos 0) ∙ ap (λ (k : ℕ). getD l k (pos 0)) here in
+        sym (getD-take rowPlaces m i (pos 0) (omega (arith, q .short))) ∙ sym (at-start (row m)) ∙ ap (λ (l : List ℤ). getD l 0 (pos 0)) (g .unread) ∙ at-start (row m₀)
+
+    pub going-on : (y z : ℤ) → i < to → SFits w32 (getD m i (pos 0)) → SFits w32 y → SFits w32 z →
+        y ≡ lowValue p lines size (at + i) L (raw w32 (getD m i (pos 0))) → z ≡ lateValue p lines size (at + i) L →
+        Going (set lines (at + i) (raw w32 (getD m i (pos 0)))) (set (set m i (raw w32 z)) (rowPlaces + i) (raw w32 y)) (i + 1)
     unfolding line
-    going-on y z h hx hl ha fx fy fz ey ez =
-        let v = getD x i (pos 0) in
-        let value : y ≡ lowValue p lines size (at + i) L v = ey ∙ ap (lowValue p lines size (at + i) L) (toZ-ofZ fx) in
-        record {
+    going-on y z h fx fy fz ey ez =
+        let v = getD (row m₀) i (pos 0) in
+        let x-is : raw w32 (getD m i (pos 0)) ≡ v = toZ-ofZ fx ∙ same-sample h in
+        let y-is : raw w32 y ≡ lowValue p lines size (at + i) L v = toZ-ofZ fy ∙ ey ∙ ap (lowValue p lines size (at + i) L) x-is in
+        let z-is : raw w32 z ≡ lateValue p lines size (at + i) L = toZ-ofZ fz ∙ ez in
+        let few : i < rowPlaces = omega (arith, q .short) in
+        let row-long : length (row m) ≡ rowPlaces = length-take-le rowPlaces m (omega (arith, q .room, g .same-matrix)) in
+        let row₀-long : length (row m₀) ≡ rowPlaces = length-take-le rowPlaces m₀ (omega (arith, q .room)) in
+        let below-long : i < length (below m) = rw (length-drop rowPlaces m) (omega (arith, q .room, g .same-matrix)) in
+        let next-from : (l : List ℤ) → drop (i + 1) l ≡ drop 1 (drop i l) = λ l. sym (drop-drop 1 i l) in
+        rw (x-is, y-is, z-is)
+        (record {
           started = omega (arith, g .started);
           reached = omega arith;
-          same-lines = length-set lines (at + i) (raw w32 v) ∙ g .same-lines;
-          same-low = length-set low i (raw w32 y) ∙ g .same-low;
-          same-late = length-set late i (raw w32 z) ∙ g .same-late;
+          same-lines = length-set lines (at + i) v ∙ g .same-lines;
+          same-matrix = length-set (set m i (lateValue p lines size (at + i) L)) (rowPlaces + i) (lowValue p lines size (at + i) L v) ∙ length-set m i (lateValue p lines size (at + i) L) ∙ g .same-matrix;
+          unread =
+              ap (drop (i + 1)) (row-stored m i (lowValue p lines size (at + i) L v) (lateValue p lines size (at + i) L) few) ∙
+              drop-set-lt (i + 1) (row m) i (lateValue p lines size (at + i) L) (omega arith) ∙
+              next-from (row m) ∙ ap (drop 1) (g .unread) ∙ sym (next-from (row m₀));
           rest =
               rw (
                 one-on at i,
                 add-one i,
-                toZ-ofZ fx,
-                toZ-ofZ fy,
-                toZ-ofZ fz,
-                take-suc-set low i y (omega (arith, g .same-low)),
-                take-suc-set late i z (omega (arith, g .same-late)),
-                append-snoc (take i low) y,
-                append-snoc (take i late) z,
-                value,
-                ez,
+                row-stored m i (lowValue p lines size (at + i) L v) (lateValue p lines size (at + i) L) few,
+                below-stored m i (lowValue p lines size (at + i) L v) (lateValue p lines size (at + i) L) few,
+                take-suc-set (row m) i (lateValue p lines size (at + i) L) (omega (arith, row-long)),
+                take-suc-set (below m) i (lowValue p lines size (at + i) L v) below-long,
+                append-snoc (take i (row m)) (lateValue p lines size (at + i) L),
+                append-snoc (take i (below m)) (lowValue p lines size (at + i) L v),
               )
-              (rw (slice-cons i to x (pos 0) h hx) at (g .rest));
-        }
+              (rw (slice-cons i to (row m₀) (pos 0) h (omega (arith, row₀-long, q .short))) at (g .rest));
+        })
 
-    pub going-ends : to ≤ i → LineDone (line p size L (at + from) lines₀ (slice from to x)) from to low₀ late₀ lines low late
+    pub going-ends : to ≤ i → LineDone (line p size L (at + from) lines₀ (slice from to (row m₀))) from to m₀ lines m
     unfolding line
     going-ends h =
         let end : i ≡ to = omega (arith, g .reached) in
-        let q = rw (end, slice-empty to x, append-nil (take to low), append-nil (take to late)) at (g .rest) in
+        let r = rw (end, slice-empty to (row m₀), append-nil (take to (row m)), append-nil (take to (below m))) at (g .rest) in
         record {
-          places-are = ap (λ (u : List ℤ × List ℤ × List ℤ). u .0) q;
-          low-is = ap (λ (u : List ℤ × List ℤ × List ℤ). u .1) q;
-          late-is = ap (λ (u : List ℤ × List ℤ × List ℤ). u .2) q;
+          places-are = ap (λ (u : List ℤ × List ℤ × List ℤ). u .0) r;
+          late-is = ap (λ (u : List ℤ × List ℤ × List ℤ). u .1) r;
+          low-is = ap (λ (u : List ℤ × List ℤ × List ℤ). u .2) r;
+          unread = rw end at (g .unread);
         }
-
--- ---- a row kept
-
-pub record Keeping (x row₀ row : List ℤ) (i : ℕ) : Type 0 where
-  pub reached : i ≤ length x
-  pub same-row : length row ≡ length row₀
-  pub rest : take i row ++ slice i (length x) x ≡ x
-
-whole-slice : (x : List ℤ) → slice 0 (length x) x ≡ x
-whole-slice x = take-all (length x) x (omega arith)
-
-pub keeping-starts : (x row : List ℤ) → Keeping x row row 0
-keeping-starts x row = record { reached = omega arith; same-row = refl; rest = whole-slice x }
-
-module _ (x row₀ row : List ℤ) (i : ℕ) (g : Keeping x row₀ row i) where
-  pub keeping-on : i < length x → length x ≤ length row₀ → SFits w32 (getD x i (pos 0)) → Keeping x row₀ (set row i (raw w32 (getD x i (pos 0)))) (i + 1)
-  keeping-on h hr fx =
-      let v = getD x i (pos 0) in
-      record {
-        reached = omega arith;
-        same-row = length-set row i (raw w32 v) ∙ g .same-row;
-        rest = rw (add-one i, toZ-ofZ fx, take-suc-set row i v (omega (arith, g .same-row)), append-snoc) (rw (slice-cons i (length x) x (pos 0) h (omega arith)) at (g .rest));
-      }
-
-  pub keeping-ends : length x ≤ i → take (length x) row ≡ x
-  keeping-ends h =
-      let end : i ≡ length x = omega (arith, g .reached) in
-      rw (end, slice-empty (length x) x, append-nil) at (g .rest)

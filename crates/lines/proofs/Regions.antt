@@ -51,10 +51,10 @@ pub region-same : {p : Prototype} {bands size L : ℕ} {lines ls : List ℤ} →
 region-same e r = record { some = r .some; few = r .few; stretch = r .stretch; sized = r .sized; whole = e ∙ r .whole; small = r .small }
 
 -- a row of the first line
-pub part-of : (p : Prototype) (size at L bands : ℕ) (lines x matrix : List ℤ) → (bands ≡ 1 → ⊥) → RowRegion p bands size at L lines x matrix → Part p lines size at L 0 (length x)
-part-of p size at L zero lines x matrix more r = absurd (omega (arith, r .region .some))
-part-of p size at L (suc zero) lines x matrix more r = absurd (more refl)
-part-of p size at L (suc (suc b)) lines x matrix more r =
+pub row-of : (p : Prototype) (size at L bands n : ℕ) (lines matrix : List ℤ) → (bands ≡ 1 → ⊥) → RowRegion p bands size at L n lines matrix → Part p lines size at L 0 n matrix
+row-of p size at L zero n lines matrix more r = absurd (omega (arith, r .region .some))
+row-of p size at L (suc zero) n lines matrix more r = absurd (more refl)
+row-of p size at L (suc (suc b)) n lines matrix more r =
     record {
       ordered = omega arith;
       before-end = r .before-end;
@@ -62,4 +62,6 @@ part-of p size at L (suc (suc b)) lines x matrix more r =
       some = r .region .stretch;
       held = held-of p size L lines b (r .region);
       small = r .region .small;
+      short = r .short;
+      room = omega (arith, r .room);
     }

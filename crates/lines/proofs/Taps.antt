@@ -1,8 +1,8 @@
 -- From eleven samples to the sum over nineteen coefficients (rule 5.7), and where the samples stand in the line. Assumes nothing.
-use mathlib.Core.Path.{_≡_, refl, sym, ap, subst, _∙_}
+use mathlib.Core.Path.{_≡_, refl, sym, ap, _∙_}
 use mathlib.Core.List.{List}
 use Prim.Native.Nat.{ℕ, zero, suc, _+_, _-_, _*_, _≤_, _<_, _^_}
-use native.Mathlib.Nat.{mul-comm, mul-le-mul, mul-le-mul-right}
+use native.Mathlib.Nat.{mul-comm, mul-le-mul-right, le-trans}
 use native.Mathlib.Omega.{arith}
 use borrow.Author.Tests.{le-leb, lt-leb}
 use lib.Dec.{lit<, lit≤}
@@ -22,7 +22,7 @@ use Rattle.whole.proofs.Limit.{limit32-fits}
 use Rattle.whole.proofs.Rounded.{raw, nearest-fits}
 use Rattle.tree.specs.Prototype.{published, coefficient}
 use Rattle.lines.specs.Line.{place, ago, tap, lineSum, lowValue, lateValue}
-use Rattle.lines.specs.Helpers.{eleven, Weighed, Summed}
+use Rattle.lines.specs.Helpers.{eleven, Weighed}
 
 -- ---- eleven products are the nineteen
 
@@ -48,24 +48,21 @@ read-raw {x} {y} d = toZ-ofZ {w = w32} {z = x} (record { sfits = d .fits }) ∙ 
 small-fits : (r : ℤ) → natAbs r ≤ 2 ^ 51 → SFits w64 r
 small-fits r h = record { sfits = omega (arith, about r) }
 
+small-raw : (r : ℤ) → natAbs r ≤ 2 ^ 51 → raw w64 r ≡ r
+small-raw r h = toZ-ofZ (small-fits r h)
+
 pub summed : (line : List ℤ) (size at L : ℕ) (x : ℤ) {x0 x2 x4 x6 x8 x9 x10 x12 x14 x16 x18 r : ℤ} →
     let f = tap line size at L x in
     Read x0 (f 0) → Read x2 (f 2) → Read x4 (f 4) → Read x6 (f 6) → Read x8 (f 8) → Read x9 (f 9) → Read x10 (f 10) →
     Read x12 (f 12) → Read x14 (f 14) → Read x16 (f 16) → Read x18 (f 18) →
     Weighed (raw w32 x0) (raw w32 x2) (raw w32 x4) (raw w32 x6) (raw w32 x8) (raw w32 x9) (raw w32 x10) (raw w32 x12) (raw w32 x14)
     (raw w32 x16) (raw w32 x18) r →
-    Summed published line size at L x (raw w64 r)
+    r ≡ lineSum published line size at L x
 unfolding lineSum
-summed line size at L x {r} d0 d2 d4 d6 d8 d9 d10 d12 d14 d16 d18 w =
-    let f : ℕ → ℤ = tap line size at L x in
-    let back : raw w64 r ≡ r = toZ-ofZ (small-fits r (w .size)) in
-    record {
-      value =
-          back ∙ w .value ∙
-          simp (read-raw d0, read-raw d2, read-raw d4, read-raw d6, read-raw d8, read-raw d9, read-raw d10, read-raw d12, read-raw d14, read-raw d16, read-raw d18)
-          (eleven-taps f);
-      bounded = rw back (w .size);
-    }
+summed line size at L x d0 d2 d4 d6 d8 d9 d10 d12 d14 d16 d18 w =
+    w .value ∙
+    simp (read-raw d0, read-raw d2, read-raw d4, read-raw d6, read-raw d8, read-raw d9, read-raw d10, read-raw d12, read-raw d14, read-raw d16, read-raw d18)
+    (eleven-taps (tap line size at L x))
 
 -- ---- the taps
 
@@ -79,9 +76,13 @@ unfolding tap
 read-tap line size at L x zero r s e f = absurd (omega arith)
 read-tap line size at L x (suc i) r s e f = record { fits = f; value = e ∙ ap (ago line size at) (mul-comm (suc i) L) }
 
--- i·L is within 18·L, and not 0
-pub tap-inside : (i L : ℕ) → 1 ≤ i → i ≤ 18 → 1 ≤ L → (1 ≤ i * L) × (i * L ≤ 18 * L)
-tap-inside i L o m s = (mul-le-mul {n₁ = 1} {m₁ = 1} o s, mul-le-mul-right L m)
+module _ (i k L at : ℕ) where
+  -- what is known of one tap is known of the newer ones, or of the older
+  pub back-too : i ≤ k → k * L ≤ at → i * L ≤ at
+  back-too h e = le-trans (mul-le-mul-right L h) e
+
+  pub round-too : k ≤ i → at < k * L → at < i * L
+  round-too h e = le-trans e (mul-le-mul-right L h)
 
 module _ (line : List ℤ) (size at d : ℕ) where
   -- where it stands before the position, and around the end
@@ -93,22 +94,18 @@ module _ (line : List ℤ) (size at d : ℕ) where
 
 -- ---- from the sum to the line's new value
 
--- the new sample as the machine hands it on
-pub summed-of-raw : (line : List ℤ) (size at L : ℕ) {x s : ℤ} → SFits w32 x → Summed published line size at L (raw w32 x) s → Summed published line size at L x s
-summed-of-raw line size at L {x} {s} f h = subst (λ (y : ℤ). Summed published line size at L y s) (toZ-ofZ f) h
+pub sum-in-reach : (r : ℤ) → natAbs r ≤ 2 ^ 51 → natAbs (raw w64 r) ≤ 2 ^ 62
+sum-in-reach r h = rw (small-raw r h) (omega arith)
 
-pub sum-in-reach : {line : List ℤ} {size at L : ℕ} {x s : ℤ} → Summed published line size at L x s → natAbs (raw w64 s) ≤ 2 ^ 62
-sum-in-reach {s = s} h = rw (toZ-ofZ (small-fits s (h .bounded))) (omega (arith, h .bounded))
-
-pub low-value-is : {line : List ℤ} {size at L : ℕ} {x s n r : ℤ} → Summed published line size at L x s →
+pub low-value-is : (line : List ℤ) (size at L : ℕ) (x s n r : ℤ) → s ≡ lineSum published line size at L x → natAbs s ≤ 2 ^ 51 →
     n ≡ nearest 100000 (raw w64 s) → r ≡ limit leastPlace mostPlace (raw w64 n) → raw w32 r ≡ lowValue published line size at L x
 unfolding lowValue
-low-value-is {line} {size} {at} {L} {x} {s} {n} {r} h e l =
-    let s-is : raw w64 s ≡ lineSum published line size at L x = toZ-ofZ (small-fits s (h .bounded)) ∙ h .value in
-    let n-is : n ≡ nearest 100000 (lineSum published line size at L x) = e ∙ ap (nearest 100000) s-is in
-    let n-fits : SFits w64 n = rw e (nearest-fits 100000 (lit< tt) (lit≤ tt) (raw w64 s) (sum-in-reach h)) in
+low-value-is line size at L x s n r h b e l =
+    let s-is : raw w64 s ≡ s = small-raw s b in
+    let n-is : n ≡ nearest 100000 s = e ∙ ap (nearest 100000) s-is in
+    let n-fits : SFits w64 n = rw n-is (nearest-fits 100000 (lit< tt) (lit≤ tt) s (omega arith)) in
     let r-is : r ≡ limit leastPlace mostPlace n = l ∙ ap (limit leastPlace mostPlace) (toZ-ofZ n-fits) in
-    toZ-ofZ (rw r-is (limit32-fits n)) ∙ r-is ∙ ap (limit leastPlace mostPlace) n-is
+    toZ-ofZ (rw r-is (limit32-fits n)) ∙ r-is ∙ ap (limit leastPlace mostPlace) (n-is ∙ ap (nearest 100000) h)
 
 -- ---- the aligned sample: `size - 9·L` back is 9·L ahead, in the ring
 

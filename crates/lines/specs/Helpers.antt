@@ -2,10 +2,9 @@
 use mathlib.Core.Path.{_≡_}
 use mathlib.Core.List.{List, _++_}
 use Prim.Native.Nat.{ℕ, _+_, _-_, _*_, _^_, _≤_, _<_}
-use lib.ListN.{length, take}
+use lib.ListN.{length, take, drop}
 use lib.IntN.{ℤ, pos, negsuc, natAbs, _+ℤ_, _*ℤ_}
 use Rattle.tree.specs.Prototype.{Prototype, taps}
-use Rattle.lines.specs.Line.{lineSum}
 use Rattle.lines.specs.Rows.{rowPlaces, Lined, Rowed, Shown}
 
 -- ---- a prototype that the rings hold: no tap beyond twice the centre, which is not 0
@@ -23,11 +22,6 @@ pub record Within (p : Prototype) (line : List ℤ) (size at L : ℕ) : Type 0 w
   pub held : size ≤ length line
   pub small : size ≤ 4608
 
--- what a line's sum answers: rule 5.7's sum, far within 64 bits for any places (rule 5.12)
-pub record Summed (p : Prototype) (line : List ℤ) (size at L : ℕ) (x r : ℤ) : Type 0 where
-  pub value : r ≡ lineSum p line size at L x
-  pub bounded : natAbs r ≤ 2 ^ 51
-
 -- ---- the low-pass sum over eleven samples
 
 -- c(i)·x(i) at i = 0, 2, 4, 6, 8, 9, 10, 12, 14, 16, 18; the other coefficients are 0
@@ -40,22 +34,30 @@ pub record Weighed (x0 x2 x4 x6 x8 x9 x10 x12 x14 x16 x18 r : ℤ) : Type 0 wher
   pub value : r ≡ eleven x0 x2 x4 x6 x8 x9 x10 x12 x14 x16 x18
   pub size : natAbs r ≤ 2 ^ 51
 
--- ---- a row
+-- ---- a row, in a matrix of rows
 
--- what a part of a row asks: the samples from `from` to `to` of a row at `at`, not past the ring's end
-pub record Part (p : Prototype) (lines : List ℤ) (size at L from to : ℕ) : Type 0 where
+-- what a part of a row asks: the samples from `from` to `to` of the first row, at the position `at` and not past the ring's end, and a row behind it
+pub record Part (p : Prototype) (lines : List ℤ) (size at L from to : ℕ) (matrix : List ℤ) : Type 0 where
   pub ordered : from ≤ to
   pub before-end : at + to ≤ size
   pub reach : 2 * (p .centre * L) ≤ size
   pub some : 1 ≤ L
   pub held : size ≤ length lines
   pub small : size ≤ 4608
+  pub short : to ≤ rowPlaces
+  pub room : 2 * rowPlaces ≤ length matrix
 
--- what it leaves: the line run over the part, its low samples and its aligned samples behind those that stood there
-pub record LineDone (l : Lined) (from to : ℕ) (low₀ late₀ places low late : List ℤ) : Type 0 where
+-- the places of its samples, if there are any, are from `least` on and before `end`
+abbrev pub Between : ℕ → ℕ → ℕ → ℕ → ℕ → Type 0
+Between least end at from to = from < to → (least ≤ at + from) × (at + to ≤ end)
+
+-- what it leaves: the line run over the part; its aligned samples in the first row and its low samples in the second, each behind those that
+-- stood there; the samples behind the part as they were
+pub record LineDone (l : Lined) (from to : ℕ) (matrix₀ places matrix : List ℤ) : Type 0 where
   pub places-are : places ≡ l .places
-  pub low-is : take to low ≡ take from low₀ ++ l .low
-  pub late-is : take to late ≡ take from late₀ ++ l .late
+  pub late-is : take to (take rowPlaces matrix) ≡ take from (take rowPlaces matrix₀) ++ l .late
+  pub low-is : take to (drop rowPlaces matrix) ≡ take from (drop rowPlaces matrix₀) ++ l .low
+  pub unread : drop to (take rowPlaces matrix) ≡ drop to (take rowPlaces matrix₀)
 
 -- ---- the cascade
 
@@ -68,11 +70,11 @@ pub record Region (p : Prototype) (bands size L : ℕ) (lines : List ℤ) : Type
   pub whole : length lines ≡ (bands - 1) * size
   pub small : size ≤ 4608
 
--- what a row through them asks: not longer than a row of the matrix, not past the ring's end, and a matrix with a row for each line
-pub record RowRegion (p : Prototype) (bands size at L : ℕ) (lines x matrix : List ℤ) : Type 0 where
+-- what a row of n samples through them asks: not longer than a row of the matrix, not past the ring's end, and a matrix with a row for each line
+pub record RowRegion (p : Prototype) (bands size at L n : ℕ) (lines matrix : List ℤ) : Type 0 where
   pub region : Region p bands size L lines
-  pub short : length x ≤ rowPlaces
-  pub before-end : at + length x ≤ size
+  pub short : n ≤ rowPlaces
+  pub before-end : at + n ≤ size
   pub room : rowPlaces * bands ≤ length matrix
 
 -- what it leaves

@@ -2,4 +2,4 @@
 pub mod cascade;
 mod line;
 mod low;
-mod row;
+pub mod row;

@@ -1,81 +1,125 @@
 -- `row::line_over` meets its contract. Assumes nothing.
-use mathlib.Core.Bool.{false≢true}
+use mathlib.Core.Path.{refl, _∙_}
+use Prim.Native.Nat.{_≤_}
 use native.Mathlib.Omega.{arith}
 use lib.ListN.{length}
 use denote.Ref.{now}
 use Rattle.tree.specs.Prototype.{published}
-use Rattle.lines.proofs.Parts.{first-part, second-part, parts}
+use Rattle.lines.specs.Rows.{rowPlaces}
+use Rattle.lines.proofs.Parts.{parts, starting, part-of-row, Cuts, cuts}
 use borrow.Author.Needs.{needs}
 use Rattle.lines.proofs.row.line_over.Statement.{statement}
 use Rattle.lines.proofs.row.line_over.Tie as tie
 use Rattle.lines.proofs.row.line_over.Reads as reads
 use Rattle.lines.proofs.row.line_over.Lts as lts
-use Rattle.lines.proofs.row.part.Reads as part-reads
-use Rattle.lines.proofs.row.wrapping.Reads as wrapping-reads
+use Rattle.lines.proofs.row.up_to.Reads as up-to-reads
+use Rattle.lines.proofs.row.far.Reads as far-reads
+use Rattle.lines.proofs.row.near.Reads as near-reads
+use Rattle.lines.proofs.row.straight.Reads as straight-reads
 
--- src/row.rt:66:9
-wrapping-requires : tie.Need-wrapping-requires
-wrapping-requires c κs = search needs
-
--- src/row.rt:67:5
-part-requires : tie.Need-part-requires
-part-requires c κs =
-    let s = c .before .before .before .before in
+the-cuts : (c : tie.After-up-to2) → let a = c .before .before .args in Cuts (a .at) (a .l) (a .n) (c .before .up-to .result) (c .up-to2 .result) (a .size)
+the-cuts c =
+    let s = c .before .before in
     let a = s .args in
-    let w = c .before .before .before .wrapping in (
-      first-part published (a .size) (a .at) (a .l) (w .result) (length (now (a .x))) (now (a .lines)) (w .ensures .0) (s .pre .0),
-      w .ensures .0,
-      omega (arith, s .pre .1, w .ensures .0),
-      omega (arith, s .pre .2, w .ensures .0),
-      λ never. absurd (false≢true never),
+    cuts (a .size) (a .at) (a .l) (a .n) (c .before .up-to .result) (c .up-to2 .result) (s .pre .before-end) (c .before .up-to .ensures) (c .up-to2 .ensures)
+
+-- src/row.rt:108:20
+mul-up-to : tie.Need-mul-up-to
+mul-up-to c = search needs
+
+-- src/row.rt:108:9
+up-to-requires : tie.Need-up-to-requires
+up-to-requires c κs = search needs
+
+-- src/row.rt:109:20
+mul-up-to-2 : tie.Need-mul-up-to-2
+mul-up-to-2 c = search needs
+
+-- src/row.rt:109:9
+up-to-requires-2 : tie.Need-up-to-requires-2
+up-to-requires-2 c κs = search needs
+
+-- src/row.rt:110:5
+near-requires : tie.Need-near-requires
+near-requires c κs =
+    let c2 = c .before .before in
+    let s = c2 .before .before in
+    let a = s .args in
+    let k = the-cuts c2 in (
+      part-of-row published (a .size) (a .at) (a .l) (a .n) (now (a .lines)) (now (a .rows)) (s .pre) 0 (c2 .before .up-to .result) (now (a .lines)) (now (a .rows))
+      (omega arith) (omega (arith, k .first, k .second)) refl refl,
+      k .near,
     )
 
--- src/row.rt:68:5
-part-requires-2 : tie.Need-part-requires-2
-part-requires-2 c κs =
-    let first = c .before .before .before .before .before .before .part in
-    let w = c .before .before .before .before .before .before .before .before .before .before .wrapping in
-    let s = c .before .before .before .before .before .before .before .before .before .before .before in
-    let a = s .args in (
-      second-part published (a .size) (a .at) (a .l) (w .result) (length (now (a .x))) (now (a .lines)) (first .last .0) (w .ensures .0) (first .kept .0) (s .pre .0),
-      omega arith,
-      omega (arith, s .pre .1, first .kept .1 .1 .1 .1 .1 .1 .1 .1 .0),
-      omega (arith, s .pre .2, first .kept .1 .1 .1 .1 .1 .1 .1 .1 .1 .0),
-      λ _. w .ensures .1,
+-- src/row.rt:111:5
+far-requires : tie.Need-far-requires
+far-requires c κs =
+    let c2 = c .before .before .before .before .before .before .before in
+    let s = c2 .before .before in
+    let a = s .args in
+    let k = the-cuts c2 in
+    let near = c .before .before .before .before .near in (
+      part-of-row published (a .size) (a .at) (a .l) (a .n) (now (a .lines)) (now (a .rows)) (s .pre) (c2 .before .up-to .result) (c2 .up-to2 .result) (near .last .0) (near .last .1 .1 .1 .1 .1 .1 .0)
+      (k .first) (k .second) (near .kept .0) (near .kept .1 .1 .1 .1 .1 .1 .0),
+      k .far,
     )
 
--- src/row.rt:54:1
+-- src/row.rt:112:5
+straight-requires : tie.Need-straight-requires
+straight-requires c κs =
+    let c2 = c .before .before .before .before .before .before .before .before .before .before .before .before in
+    let s = c2 .before .before in
+    let a = s .args in
+    let k = the-cuts c2 in
+    let near = c .before .before .before .before .before .before .before .before .before .near in
+    let far = c .before .before .before .before .far in (
+      part-of-row published (a .size) (a .at) (a .l) (a .n) (now (a .lines)) (now (a .rows)) (s .pre) (c2 .up-to2 .result) (a .n) (far .last .0) (far .last .1 .1 .1 .1 .1 .1 .0)
+      (k .second) (omega arith) (far .kept .0 ∙ near .kept .0) (far .kept .1 .1 .1 .1 .1 .1 .0 ∙ near .kept .1 .1 .1 .1 .1 .1 .0),
+      k .straight,
+    )
+
+-- src/row.rt:97:1
 same-length : tie.Need-same-length
 same-length c = search needs
 
--- src/row.rt:54:1
+-- src/row.rt:97:1
 same-length-2 : tie.Need-same-length-2
 same-length-2 c = search needs
 
--- src/row.rt:54:1
-same-length-3 : tie.Need-same-length-3
-same-length-3 c = search needs
-
--- src/row.rt:54:1
+-- src/row.rt:97:1
 returns : tie.Need-returns
 returns c =
-    let second = c .before .before .before .part2 in
-    let first = c .before .before .before .before .before .before .before .before .before .before .part in
-    let w = c .before .before .before .before .before .before .before .before .before .before .before .before .before .before .wrapping in
-    let a = c .before .before .before .before .before .before .before .before .before .before .before .before .before .before .before .args in
-    parts published (a .size) (a .at) (a .l) (w .result) (now (a .x)) (now (a .lines)) (now (a .low)) (now (a .late))
-    (first .last .0) (first .last .1 .1 .1 .1 .1 .1 .1 .1 .0) (first .last .1 .1 .1 .1 .1 .1 .1 .1 .1 .0)
-    (second .last .0) (second .last .1 .1 .1 .1 .1 .1 .1 .1 .0) (second .last .1 .1 .1 .1 .1 .1 .1 .1 .1 .0)
-    (w .ensures .0) (first .ensures) (second .ensures)
+    let c2 = c .before .before .before .before .before .before .before .before .before .before .before .before .before .before .before in
+    let s = c2 .before .before in
+    let a = s .args in
+    let k = the-cuts c2 in
+    let near = c .before .before .before .before .before .before .before .before .before .before .before .before .near in
+    let far = c .before .before .before .before .before .before .before .far in
+    let straight = c .before .before .straight in
+    let w = c2 .before .up-to .result in
+    let v = c2 .up-to2 .result in
+    let m = now (a .rows) in
+    let short : v ≤ rowPlaces = omega (arith, k .second, s .pre .short) in
+    let long : rowPlaces ≤ length m = omega (arith, s .pre .room) in
+    let long₁ : rowPlaces ≤ length (near .last .1 .1 .1 .1 .1 .1 .0) = omega (arith, long, near .kept .1 .1 .1 .1 .1 .1 .0) in
+    let long₂ : rowPlaces ≤ length (far .last .1 .1 .1 .1 .1 .1 .0) = omega (arith, long₁, far .kept .1 .1 .1 .1 .1 .1 .0) in
+    parts published (a .size) (a .at) (a .l) v (a .n) (now (a .lines)) m (far .last .0) (far .last .1 .1 .1 .1 .1 .1 .0) (straight .last .0) (straight .last .1 .1 .1 .1 .1 .1 .0) (k .second) (s .pre .short) long long₂
+    (parts published (a .size) (a .at) (a .l) w v (now (a .lines)) m (near .last .0) (near .last .1 .1 .1 .1 .1 .1 .0) (far .last .0) (far .last .1 .1 .1 .1 .1 .1 .0) (k .first) short long long₁
+    (starting published (a .size) (a .at) (a .l) w (now (a .lines)) m (near .last .0) (near .last .1 .1 .1 .1 .1 .1 .0) (omega (arith, k .first, short)) (near .ensures))
+    (far .ensures))
+    (straight .ensures)
 
 pub line-over-spec : {M : Type 1} → statement M
 line-over-spec =
     tie.close
     (tie.spec
-    wrapping-requires
-    part-requires
-    part-requires-2
+    mul-up-to
+    up-to-requires
+    mul-up-to-2
+    up-to-requires-2
+    near-requires
+    far-requires
+    straight-requires
     same-length
     same-length-2
-    same-length-3
     returns)
