@@ -7,9 +7,14 @@ use native.Mathlib.Omega.{arith}
 use borrow.Author.Tests.{lt-ltb, le-ltb, ltb-true}
 use borrow.Rule.Slice.PartMut.{putMid, same-len-mid}
 use lib.Dec.{ltb, lit≤}
-use lib.ListN.{length, take, drop, length-drop, length-append, take-append-drop, drop-of-length-le}
-use lib.Seq.{drop-drop, length-take-le, take-all, take-at}
+use lib.ListN.{length, getD, take, drop, set, length-set, length-drop, length-append, take-append-drop, drop-of-length-le}
+use lib.Seq.{slice, slice-cons, slice-empty, take-suc-set, append-snoc, drop-drop, length-take-le, take-all, take-at}
 use lib.IntN.{ℤ, pos}
+use mir.Syntax.{w32}
+use mir.Val.{SFits}
+use mir.Facts.{toZ-ofZ}
+use native.Mathlib.Numerals.{add-one}
+use Rattle.whole.proofs.Rounded.{raw}
 use Rattle.tree.specs.Prototype.{published}
 use Rattle.lines.specs.Cascade.{Ran, run}
 use Rattle.lines.specs.Rows.{rowPlaces, wrapped, rowed, columns}
@@ -53,11 +58,12 @@ take-put-end i n xs ys h e =
 
 -- ---- a row
 
--- what the matrix shows is what is weighed
-pub row-answered : (bands size at : ℕ) (lines xs : List ℤ) {ds ys matrix outs : List ℤ} → 1 ≤ bands → length outs ≡ length xs →
-    RowsDone (rowed published size (bands - 1) 1 at lines xs) (length xs) ys matrix → RowWeighed bands matrix ds outs →
+-- what the matrix shows is what is weighed: the row was put in `before`
+pub row-answered : (bands size at : ℕ) (lines xs before : List ℤ) {ds ys matrix outs : List ℤ} → 1 ≤ bands → length outs ≡ length xs → take (length xs) before ≡ xs →
+    RowsDone (rowed published size (bands - 1) 1 at lines (take (length xs) before)) (length xs) ys matrix → RowWeighed bands matrix ds outs →
     RowAnswered bands (rowed published size (bands - 1) 1 at lines xs) ds ys outs
-row-answered bands size at lines xs some e d w =
+row-answered bands size at lines xs before {ds} {ys} {matrix} {outs} some e b d' w =
+    let d : RowsDone (rowed published size (bands - 1) 1 at lines xs) (length xs) ys matrix = rw b at d' in
     let R = rowed published size (bands - 1) 1 at lines xs in
     let count : length (R .rows) ≡ bands = rows-count published size (bands - 1) 1 at lines xs ∙ suc-less bands some in
     record {
@@ -67,6 +73,31 @@ row-answered bands size at lines xs some e d w =
   where
     suc-less : (n : ℕ) → 1 ≤ n → suc (n - 1) ≡ n
     suc-less n h = omega arith
+
+-- ---- the input put in the matrix
+
+pub record Putting (x row₀ row : List ℤ) (i : ℕ) : Type 0 where
+  pub reached : i ≤ length x
+  pub same-row : length row ≡ length row₀
+  pub rest : take i row ++ slice i (length x) x ≡ x
+
+pub putting-starts : (x row : List ℤ) → Putting x row row 0
+putting-starts x row = record { reached = omega arith; same-row = refl; rest = take-all (length x) x (omega arith) }
+
+module _ (x row₀ row : List ℤ) (i : ℕ) (p : Putting x row₀ row i) where
+  pub putting-on : i < length x → length x ≤ length row₀ → SFits w32 (getD x i (pos 0)) → Putting x row₀ (set row i (raw w32 (getD x i (pos 0)))) (i + 1)
+  putting-on h hr fx =
+      let v = getD x i (pos 0) in
+      record {
+        reached = omega arith;
+        same-row = length-set row i (raw w32 v) ∙ p .same-row;
+        rest = rw (add-one i, toZ-ofZ fx, take-suc-set row i v (omega (arith, p .same-row)), append-snoc) (rw (slice-cons i (length x) x (pos 0) h (omega arith)) at (p .rest));
+      }
+
+  pub putting-ends : length x ≤ i → take (length x) row ≡ x
+  putting-ends h =
+      let end : i ≡ length x = omega (arith, p .reached) in
+      rw (end, slice-empty (length x) x, append-nil) at (p .rest)
 
 -- ---- the loop
 
@@ -93,21 +124,21 @@ went-on g done outs cols t w o e b rest =
         ap (λ (l : List ℤ). done ++ l) (ap (λ (l : List ℤ). l ++ outputs (λ _. g) (t .aligned)) o ∙ sym (outputs-append g cols (t .aligned)))
 
 -- up to sample i the outputs are written; what the rest gives from here is what the whole run gives
-pub record Going (bands size from : ℕ) (g : ℕ → ℤ) (lines₀ input output₀ lines output rows : List ℤ) (at i : ℕ) : Type 0 where
+pub record Going (bands size from : ℕ) (g : ℕ → ℤ) (lines₀ input rows₀ output₀ lines rows output : List ℤ) (at i : ℕ) : Type 0 where
   pub inside : at < size
   pub reached : i ≤ length input
   pub same-lines : length lines ≡ length lines₀
   pub same-output : length output ≡ length output₀
-  pub ten-rows : length rows ≡ 320
+  pub same-rows : length rows ≡ length rows₀
   pub rest : went g (take i output) (run published size (bands - 1) at lines (drop i input)) ≡ went g [] (run published size (bands - 1) from lines₀ input)
 
-pub going-starts : (bands size from : ℕ) (g : ℕ → ℤ) (lines input output rows : List ℤ) → from < size → length rows ≡ 320 → Going bands size from g lines input output lines output rows from 0
-going-starts bands size from g lines input output rows h e =
-    record { inside = h; reached = omega arith; same-lines = refl; same-output = refl; ten-rows = e; rest = refl }
+pub going-starts : (bands size from : ℕ) (g : ℕ → ℤ) (lines input rows output : List ℤ) → from < size → Going bands size from g lines input rows output lines rows output from 0
+going-starts bands size from g lines input rows output h =
+    record { inside = h; reached = omega arith; same-lines = refl; same-output = refl; same-rows = refl; rest = refl }
 
-module _ {bands size from : ℕ} {g : ℕ → ℤ} {lines₀ input output₀ lines output rows : List ℤ} {at i : ℕ}
-    (going : Going bands size from g lines₀ input output₀ lines output rows at i) (region : Region published bands size 1 lines₀)
-    (alike : length output₀ ≡ length input) where
+module _ {bands size from : ℕ} {g : ℕ → ℤ} {lines₀ input rows₀ output₀ lines rows output : List ℤ} {at i : ℕ}
+    (going : Going bands size from g lines₀ input rows₀ output₀ lines rows output at i) (region : Region published bands size 1 lines₀)
+    (alike : length output₀ ≡ length input) (room : rowPlaces * bands ≤ length rows₀) where
   -- n samples from i on
   abbrev part : ℕ → List ℤ
   part n = take (i + n - i) (drop i input)
@@ -122,19 +153,19 @@ module _ {bands size from : ℕ} {g : ℕ → ℤ} {lines₀ input output₀ lin
   out-length n h =
       rw (part-length n h, less n) (length-take-le n (drop i output) (rw (length-drop i output, going .same-output, alike) h))
 
-  pub row-region : (n : ℕ) → n ≤ rowPlaces → n ≤ length input - i → at + n ≤ size → RowRegion published bands size at 1 lines (part n) rows
+  pub row-region : (n : ℕ) → n ≤ rowPlaces → n ≤ length input - i → at + n ≤ size → RowRegion published bands size at 1 (length (part n)) lines rows
   row-region n short left before =
       record {
         region = record { some = region .some; few = region .few; stretch = region .stretch; sized = region .sized; whole = going .same-lines ∙ region .whole; small = region .small };
         short = rw (part-length n left) short;
         before-end = rw (part-length n left) before;
-        room = omega (arith, going .ten-rows, region .few);
+        room = rw (going .same-rows) room;
       }
 
   pub going-on : (n : ℕ) (ds ys rows' outs : List ℤ) → n ≤ length input - i → at + n ≤ size →
       length ys ≡ length lines → length rows' ≡ length rows → length outs ≡ length (take (i + n - i) (drop i output)) →
       Differ bands g ds → g (suc bands) ≡ pos 0 → RowAnswered bands (rowed published size (bands - 1) 1 at lines (part n)) ds ys outs →
-      Going bands size from g lines₀ input output₀ ys (putMid i (i + n - i) output outs) rows' (wrapped size (at + n)) (i + n)
+      Going bands size from g lines₀ input rows₀ output₀ ys rows' (putMid i (i + n - i) output outs) (wrapped size (at + n)) (i + n)
   going-on n ds ys rows' outs left before ly lr lo q top d =
       let k = bands - 1 in
       let xs = part n in
@@ -155,7 +186,7 @@ module _ {bands size from : ℕ} {g : ℕ → ℤ} {lines₀ input output₀ lin
         reached = omega (arith, going .reached);
         same-lines = ly ∙ going .same-lines;
         same-output = same-len-mid i (i + n - i) output outs lo ∙ going .same-output;
-        ten-rows = lr ∙ going .ten-rows;
+        same-rows = lr ∙ going .same-rows;
         rest = went-on g (take i output) outs (columns (R .rows)) T put (d .under g q top) same here (going .rest);
       }
 

@@ -3,7 +3,7 @@ ghost use Prim.Native.Nat.{_≤_, _<_, _*_};
 ghost use lib.ListN.{length};
 ghost use Rattle.lines.specs.Rows.{rowPlaces};
 ghost use Rattle.octave.specs.Helpers.{Small, SumDone, RowWeighed};
-use lines::cascade::ROW;
+use lines::row::ROW;
 use whole::limiting::limit_24;
 use whole::products::multiply_add;
 use whole::products::widen;

@@ -1,27 +1,59 @@
 -- `run::answer_row` meets its contract. Assumes nothing.
 use mathlib.Core.Path.{_∙_}
-use native.Mathlib.Omega.{arith}
-use borrow.Author.Needs.{needs}
 use denote.Ref.{now}
 use Rattle.octave.proofs.Running.{row-answered}
+use borrow.Author.Needs.{needs}
 use Rattle.octave.proofs.run.answer_row.Statement.{statement}
 use Rattle.octave.proofs.run.answer_row.Tie as tie
+use Rattle.octave.proofs.run.answer_row.Reads as reads
+use Rattle.octave.proofs.run.answer_row.Lts as lts
+use Rattle.lines.proofs.cascade.cascade.Reads as cascade-reads
+use Rattle.octave.proofs.run.put.Reads as put-reads
+use Rattle.octave.proofs.weighing.weigh_rows.Reads as weigh-rows-reads
 
+-- src/run.rt:67:5
+put-requires : tie.Need-put-requires
+put-requires c κs = search needs
+
+-- src/run.rt:68:5
+cascade-requires : tie.Need-cascade-requires
+cascade-requires c κs = search needs
+
+-- src/run.rt:69:5
 weigh-rows-requires : tie.Need-weigh-rows-requires
-weigh-rows-requires c κs =
-    let s = c .before .before .before .before .before .before .before in
-    let row = s .pre .0 in
-    (row .region .some, row .region .few, omega (arith, s .pre .2, row .short), omega (arith, c .before .before .before .before .cascade .kept .1 .1 .1 .1 .1 .1 .0, row .room), s .pre .1)
+weigh-rows-requires c κs = search needs
 
+-- src/run.rt:54:1
+same-length : tie.Need-same-length
+same-length c = search needs
+
+-- src/run.rt:54:1
+same-length-2 : tie.Need-same-length-2
+same-length-2 c = search needs
+
+-- src/run.rt:54:1
+same-length-3 : tie.Need-same-length-3
+same-length-3 c = search needs
+
+-- src/run.rt:54:1
 returns : tie.Need-returns
 returns c =
-    let s = c .before .before .before .before .before .before .before .before .before in
+    let s = c .before .before .before .before .before .before .before .before .before .before .before .before in
     let a = s .args in
+    let put = c .before .before .before .before .before .before .before .before .before .before .put in
     let cascade = c .before .before .before .before .before .before .cascade in
     let weigh-rows = c .before .weigh-rows in
-    row-answered (a .bands) (a .size) (a .at) (now (a .lines)) (now (a .input)) (s .pre .0 .region .some) (weigh-rows .kept .1 .1 .1 .0 ∙ s .pre .2) (cascade .ensures) (weigh-rows .ensures)
+    row-answered (a .bands) (a .size) (a .at) (now (a .lines)) (now (a .input)) (put .last .1 .0) (s .pre .0 .region .some) (weigh-rows .kept .1 .1 .1 .0 ∙ s .pre .2)
+    (put .ensures) (cascade .ensures) (weigh-rows .ensures)
 
 pub answer-row-spec : {M : Type 1} → statement M
 answer-row-spec =
     tie.close
-    (tie.spec (λ c κs. c .before .before .pre .0) weigh-rows-requires (λ c. search needs) (λ c. search needs) (λ c. search needs) returns)
+    (tie.spec
+    put-requires
+    cascade-requires
+    weigh-rows-requires
+    same-length
+    same-length-2
+    same-length-3
+    returns)
