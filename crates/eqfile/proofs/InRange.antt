@@ -14,7 +14,7 @@ use Rattle.answers.specs.Unit.{leastSample, mostSample, unity}
 use Rattle.answers.proofs.Ranges.{all-cons, cons-all}
 use Rattle.whole.specs.Nearest.{nearest}
 use Rattle.whole.proofs.Limit.{limit-least, limit-most}
-use Rattle.octave.specs.Weighing.{outOf, bandSum, outputs}
+use Rattle.weighing.specs.Weighing.{outOf, bandSum, outputs}
 use Rattle.wave.specs.Bytes.{number, field}
 use Rattle.wave.specs.Sample.{sampleIn}
 use Rattle.wave.specs.Samples.{samplesOf}

@@ -13,13 +13,13 @@ use Rattle.answers.specs.Range.{allWithin}
 use Rattle.answers.specs.Unit.{blockLimit, largestGain}
 use Rattle.tree.specs.Prototype.{published}
 use Rattle.tree.specs.Signal.{gainOf}
-use Rattle.lines.specs.Line.{next}
+use Rattle.ring.specs.Line.{next}
 use Rattle.lines.specs.Cascade.{step, run}
 use Rattle.lines.specs.Helpers.{Region}
 use Rattle.octave.specs.declared.block.Blocked.{Blocked}
 use Rattle.octave.specs.declared.block.Blocked.the-variants.{Written}
 use Rattle.octave.specs.Memory.{lineLength, memoryOf, prepared, accepts}
-use Rattle.octave.specs.Weighing.{outputs}
+use Rattle.weighing.specs.Weighing.{outputs}
 use Rattle.octave.specs.Block.{equalised, blockOf}
 use Rattle.octave.proofs.Memories.{accepts-is}
 use Rattle.history.proofs.Regions.{run-region, run-inside}

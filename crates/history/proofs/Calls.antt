@@ -13,11 +13,13 @@ use Rattle.tree.specs.Prototype.{Prototype, published}
 use Rattle.tree.specs.Signal.{Signal, gainOf}
 use Rattle.tree.specs.Tree.{output}
 use Rattle.lines.specs.Cascade.{run}
-use Rattle.lines.specs.Helpers.{Centred, Region}
+use Rattle.ring.specs.Helpers.{Centred}
+use Rattle.ring.proofs.Places.{published-centred}
+use Rattle.lines.specs.Helpers.{Region}
 use Rattle.octave.specs.declared.block.Blocked.{Blocked}
 use Rattle.octave.specs.Answer.{blockAnswer}
 use Rattle.octave.specs.Memory.{lineLength, memoryOf, prepared}
-use Rattle.octave.specs.Weighing.{outputs}
+use Rattle.weighing.specs.Weighing.{outputs}
 use Rattle.octave.specs.Block.{equalised}
 use Rattle.octave.proofs.Layouts.{line-small}
 use Rattle.history.specs.History.{Call, called, from}
@@ -101,9 +103,6 @@ prepared-holds M x l h =
 
 -- ---- one accepted call
 
-centred : Centred published
-centred = record { reach = omega arith; some = omega arith }
-
 -- for any gains g of each sample that are the call's
 pub call-keeps : (M : ℕ) (x : Signal) (n : ℕ) (m : List ℤ) (c : Call) → 2 ≤ M → ((k : ℕ) → Free published x (M - 1) 0 k) →
     State published M x n m → blockAnswer (called m c .result) ≡ accepted (length (c .input)) →
@@ -113,7 +112,7 @@ pub call-keeps : (M : ℕ) (x : Signal) (n : ℕ) (m : List ℤ) (c : Call) → 
 call-keeps M x n m c l free s a e g agree =
     let gains = c .gains in
     let input = c .input in
-    let k = samples-keep published M centred x n m input (omega arith) free s e (λ _. gainOf gains) in
+    let k = samples-keep published M published-centred x n m input (omega arith) free s e (λ _. gainOf gains) in
     let r = run published (lineLength M) (M - 1) (s .at) (s .lines) input in
     let after = memoryOf (record { count = pos M; position = pos (r .position); lines = r .places }) in
     let is : called m c .lent ≡ (after, outputs (λ _. gainOf gains) (r .aligned)) =

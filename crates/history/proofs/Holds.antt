@@ -18,10 +18,11 @@ use Rattle.tree.specs.Signal.{Signal, back}
 use Rattle.tree.specs.Tree.{weighted, lowPass, level}
 use Rattle.tree.specs.Forms.{treeDelay}
 use Rattle.tree.proofs.Back.{back-zero}
-use Rattle.lines.specs.Line.{next, tap, lineSum, lowValue, lateValue}
+use Rattle.ring.specs.Line.{next, tap, lineSum, lowValue, lateValue}
 use Rattle.lines.specs.Cascade.{Stepped, step}
-use Rattle.lines.specs.Helpers.{Centred, Within, Region}
-use Rattle.lines.proofs.Places.{tap-within}
+use Rattle.ring.specs.Helpers.{Centred, Within}
+use Rattle.lines.specs.Helpers.{Region}
+use Rattle.ring.proofs.Places.{tap-within}
 use Rattle.lines.proofs.Regions.{behind-it}
 use Rattle.history.proofs.Rings.{Shows, shows-next, shows-none}
 use Rattle.history.proofs.Regions.{within, delay-is}

@@ -10,9 +10,10 @@ use lib.Seq.{length-take-le}
 use lib.IntN.{ℤ}
 use Rattle.tree.specs.Prototype.{Prototype}
 use Rattle.tree.specs.Forms.{treeDelay}
-use Rattle.lines.specs.Line.{next, lowValue}
+use Rattle.ring.specs.Line.{next, lowValue}
 use Rattle.lines.specs.Cascade.{step, run}
-use Rattle.lines.specs.Helpers.{Within, Region}
+use Rattle.ring.specs.Helpers.{Within}
+use Rattle.lines.specs.Helpers.{Region}
 use Rattle.lines.proofs.Regions.{reach-of, held-of, region-same}
 use Rattle.history.proofs.Rings.{next-inside}
 

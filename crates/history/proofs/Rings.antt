@@ -12,8 +12,8 @@ use lib.Seq.{getD-set-same, getD-set-other, getD-take, length-take-le}
 use lib.IntN.{ℤ, pos}
 use Rattle.tree.specs.Signal.{Signal, back}
 use Rattle.tree.proofs.Back.{back-in, back-out}
-use Rattle.lines.specs.Line.{place, ago, next}
-use Rattle.lines.proofs.Places.{place-cases, place-inside}
+use Rattle.ring.specs.Line.{place, ago, next}
+use Rattle.ring.proofs.Places.{place-cases, place-inside}
 
 -- ---- places
 

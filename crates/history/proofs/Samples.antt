@@ -11,9 +11,10 @@ use lib.IntN.{ℤ, pos}
 use Rattle.tree.specs.Prototype.{Prototype}
 use Rattle.tree.specs.Signal.{Signal}
 use Rattle.tree.specs.Tree.{level}
-use Rattle.lines.specs.Line.{next}
+use Rattle.ring.specs.Line.{next}
 use Rattle.lines.specs.Cascade.{Ran, step, run}
-use Rattle.lines.specs.Helpers.{Centred, Region}
+use Rattle.ring.specs.Helpers.{Centred}
+use Rattle.lines.specs.Helpers.{Region}
 use Rattle.history.specs.History.{from}
 use Rattle.history.proofs.Rings.{next-inside}
 use Rattle.history.proofs.Regions.{step-region}

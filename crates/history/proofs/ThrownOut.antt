@@ -18,13 +18,13 @@ use Rattle.tree.specs.Gains.{AllowedGains}
 use Rattle.answers.specs.Answer.{accepted, numberIn}
 use Rattle.answers.specs.Checks.{allHold, Outcome, decide, Done}
 use Rattle.answers.specs.Range.{firstOutside}
-use Rattle.lines.specs.Line.{tap, lineSum, lowValue, lateValue}
+use Rattle.ring.specs.Line.{tap, lineSum, lowValue, lateValue}
 use Rattle.lines.specs.Cascade.{step, run}
 use Rattle.octave.specs.declared.block.Blocked.{Blocked}
 use Rattle.octave.specs.declared.block.Blocked.the-variants.{Written}
 use Rattle.octave.specs.Answer.{blockAnswer}
 use Rattle.octave.specs.Memory.{prepared}
-use Rattle.octave.specs.Weighing.{bandSum, outputs}
+use Rattle.weighing.specs.Weighing.{bandSum, outputs}
 use Rattle.octave.specs.Block.{blockOf}
 use Rattle.history.proofs.Accepted.{accepted-ran}
 

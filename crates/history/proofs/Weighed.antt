@@ -15,8 +15,9 @@ use Rattle.tree.specs.Forms.{treeDelay, treeSum}
 use Rattle.tree.proofs.Back.{back-zero}
 use Rattle.tree.proofs.Recursive.{recursive-form}
 use Rattle.lines.specs.Cascade.{run}
-use Rattle.lines.specs.Helpers.{Centred, Region}
-use Rattle.octave.specs.Weighing.{outOf, bandSum, outputs}
+use Rattle.ring.specs.Helpers.{Centred}
+use Rattle.lines.specs.Helpers.{Region}
+use Rattle.weighing.specs.Weighing.{outOf, bandSum, outputs}
 use Rattle.history.specs.History.{from}
 use Rattle.history.proofs.Holds.{Holds, Free, alignedAt}
 use Rattle.history.proofs.From.{from-ext}

@@ -10,11 +10,11 @@ use lib.ListN.{length, take, drop, set, length-set, length-drop, length-append, 
 use lib.Seq.{take-at, drop-at, set-append-left, length-take-le}
 use lib.IntN.{ℤ}
 use Rattle.tree.specs.Prototype.{Prototype}
-use Rattle.lines.specs.Line.{lowValue, lateValue}
+use Rattle.ring.specs.Line.{lowValue, lateValue}
 use Rattle.lines.specs.Cascade.{Stepped, step}
 use Rattle.lines.specs.Rows.{Lined, Rowed, line, rowed, before, columns, Even}
-use Rattle.lines.specs.Helpers.{Centred}
-use Rattle.lines.proofs.Places.{low-same, late-same}
+use Rattle.ring.specs.Helpers.{Centred}
+use Rattle.ring.proofs.Places.{low-same, late-same}
 
 -- the places and the aligned samples, with no position
 pub record Passed : Type 0 where

@@ -1,7 +1,4 @@
 -- The laws that the functions' proofs cite, by subject.
-pub mod Adding
-pub mod Taps
-pub mod Places
 pub mod Interchange
 pub mod Turns
 pub mod Columns

@@ -13,9 +13,10 @@ use mir.Val.{SFits}
 use mir.Facts.{toZ-ofZ}
 use Rattle.whole.proofs.Rounded.{raw}
 use Rattle.tree.specs.Prototype.{Prototype}
-use Rattle.lines.specs.Line.{lowValue, lateValue}
+use Rattle.ring.specs.Line.{lowValue, lateValue}
 use Rattle.lines.specs.Rows.{rowPlaces, Lined, line}
-use Rattle.lines.specs.Helpers.{Within, Part, LineDone}
+use Rattle.ring.specs.Helpers.{Within}
+use Rattle.lines.specs.Helpers.{Part, LineDone}
 
 one-on : (at i : ℕ) → at + (i + 1) ≡ suc (at + i)
 one-on at i = omega arith

@@ -7,10 +7,10 @@ use borrow.Author.Tests.{lt-ltb}
 use lib.ListN.{length}
 use lib.IntN.{ℤ}
 use Rattle.tree.specs.Prototype.{Prototype}
-use Rattle.lines.specs.Line.{next}
+use Rattle.ring.specs.Line.{next}
 use Rattle.lines.specs.Cascade.{Ran, step, run}
 use Rattle.lines.specs.Rows.{wrapped, columns, rowed}
-use Rattle.lines.specs.Helpers.{Centred}
+use Rattle.ring.specs.Helpers.{Centred}
 use Rattle.lines.proofs.Interchange.{Passed, passed, read, rows-are}
 
 -- a run after some samples have passed

@@ -5,7 +5,7 @@ use Prim.Native.Nat.{ℕ, zero, suc, _*_}
 use lib.ListN.{take, drop, set}
 use lib.IntN.{ℤ}
 use Rattle.tree.specs.Prototype.{Prototype}
-use Rattle.lines.specs.Line.{next, lowValue, lateValue}
+use Rattle.ring.specs.Line.{next, lowValue, lateValue}
 
 -- rules 5.7, 5.8: the places after one sample, and the aligned samples a(M), .., a(1), the top line's first
 pub record Stepped : Type 0 where

@@ -1,5 +1,4 @@
--- The machine on lists of places: a line, a sample through the lines, a row through the lines.
-pub mod Line
+-- Samples through the lines: by the sample, and by rows.
 pub mod Cascade
 pub mod Rows
 pub mod Helpers

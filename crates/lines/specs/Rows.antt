@@ -8,7 +8,7 @@ use lib.Dec.{ltb}
 use lib.ListN.{length, take, drop, set}
 use lib.IntN.{ℤ}
 use Rattle.tree.specs.Prototype.{Prototype}
-use Rattle.lines.specs.Line.{lowValue, lateValue}
+use Rattle.ring.specs.Line.{lowValue, lateValue}
 
 -- the places of a row in the matrix of rows
 abbrev pub rowPlaces : ℕ

@@ -1,5 +1,3 @@
-// The machine: the lines of a memory, each a ring, and a row of samples through them. It knows no gain.
+// The machine: a row of samples through the lines of a memory, one behind the other. It knows no gain.
 pub mod cascade;
-mod line;
-mod low;
 pub mod row;

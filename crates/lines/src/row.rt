@@ -7,10 +7,10 @@ ghost use lib.Seq.{slice};
 ghost use Rattle.tree.specs.Prototype.{published};
 ghost use Rattle.lines.specs.Rows.{rowPlaces, line};
 ghost use Rattle.lines.specs.Helpers.{Between, Part, LineDone};
-use crate::line::late_value;
-use crate::line::low_far;
-use crate::line::low_near;
-use crate::line::low_straight;
+use ring::line::late_value;
+use ring::line::low_far;
+use ring::line::low_near;
+use ring::line::low_straight;
 use whole::counts::least;
 use whole::counts::left;
 

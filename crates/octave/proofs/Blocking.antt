@@ -19,13 +19,14 @@ use Rattle.answers.proofs.Ranges.{all-at}
 use Rattle.whole.proofs.Signed.{about}
 use Rattle.tree.specs.Prototype.{published}
 use Rattle.tree.specs.Signal.{gainOf}
-use Rattle.lines.specs.Line.{next}
+use Rattle.ring.specs.Line.{next}
 use Rattle.lines.specs.Cascade.{Ran, step, run}
 use Rattle.lines.specs.Helpers.{Region}
 use Rattle.octave.specs.Memory.{lineLength, headPlaces, heldIn, memoryOf}
-use Rattle.octave.specs.Weighing.{outputs}
+use Rattle.weighing.specs.Weighing.{outputs}
 use Rattle.octave.specs.Block.{equalised}
-use Rattle.octave.specs.Helpers.{Allowed, RunDone}
+use Rattle.weighing.specs.Helpers.{Allowed}
+use Rattle.octave.specs.Helpers.{RunDone}
 use Rattle.octave.proofs.Ranges.{within-parts}
 use Rattle.octave.proofs.Layouts.{line-small}
 use Rattle.octave.proofs.Memories.{lent-is, memory-with, Accepted}

@@ -1,8 +1,6 @@
 -- The laws that the functions' proofs cite, by subject.
-pub mod Differing
 pub mod Ranges
 pub mod Layouts
 pub mod Memories
-pub mod GainSums
 pub mod Running
 pub mod Blocking

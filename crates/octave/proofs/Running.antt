@@ -18,15 +18,14 @@ use Rattle.whole.proofs.Rounded.{raw}
 use Rattle.tree.specs.Prototype.{published}
 use Rattle.lines.specs.Cascade.{Ran, run}
 use Rattle.lines.specs.Rows.{rowPlaces, wrapped, rowed, columns}
-use Rattle.lines.specs.Helpers.{Centred, Region, RowRegion, RowsDone}
+use Rattle.ring.specs.Helpers.{Centred}
+use Rattle.lines.specs.Helpers.{Region, RowRegion, RowsDone}
+use Rattle.ring.proofs.Places.{published-centred}
 use Rattle.lines.proofs.Interchange.{rows-count, rows-even}
 use Rattle.lines.proofs.Turns.{turn}
-use Rattle.octave.specs.Weighing.{outOf, bandSum, outputs}
-use Rattle.octave.specs.Helpers.{Differ, RowWeighed, RowAnswered, RunDone}
-
--- the rings hold the prototype in use
-pub published-centred : Centred published
-published-centred = record { reach = lit≤ tt; some = lit≤ tt }
+use Rattle.weighing.specs.Weighing.{outOf, bandSum, outputs}
+use Rattle.weighing.specs.Helpers.{Differ, RowWeighed}
+use Rattle.octave.specs.Helpers.{RowAnswered, RunDone}
 
 -- ---- the position
 

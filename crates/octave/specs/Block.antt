@@ -13,7 +13,7 @@ use Rattle.octave.specs.declared.block.Blocked.{Blocked}
 use Rattle.octave.specs.declared.block.Blocked.the-variants.{Written, Memory, GainCount, Gain, OutputLength, TooLong, Sample}
 use Rattle.lines.specs.Cascade.{run}
 use Rattle.octave.specs.Memory.{lineLength, heldIn, memoryOf, bandsIn, accepts}
-use Rattle.octave.specs.Weighing.{outputs}
+use Rattle.weighing.specs.Weighing.{outputs}
 
 -- rule 6.8, block: its checks in order
 abbrev pub blockChecks : (memory gains input output : List ℤ) → List (Check Blocked)

@@ -1,6 +1,5 @@
 -- The memory, and the calls.
 pub mod Answer
 pub mod Memory
-pub mod Weighing
 pub mod Block
 pub mod Helpers

@@ -7,11 +7,12 @@ ghost use Rattle.tree.specs.Signal.{gainOf};
 ghost use Rattle.lines.specs.Cascade.{run};
 ghost use Rattle.lines.specs.Rows.{rowPlaces, wrapped, rowed};
 ghost use Rattle.lines.specs.Helpers.{Region, RowRegion};
-ghost use Rattle.octave.specs.Helpers.{Allowed, Small, RowAnswered, RunDone};
-use crate::differences::differences;
-use crate::weighing::weigh_rows;
+ghost use Rattle.weighing.specs.Helpers.{Allowed, Small};
+ghost use Rattle.octave.specs.Helpers.{RowAnswered, RunDone};
 use lines::cascade::cascade;
 use lines::row::ROW;
+use weighing::differences::differences;
+use weighing::rows::weigh_rows;
 use whole::counts::least;
 
 // The places of ten rows, and of four: few bands clear few places.

@@ -9,7 +9,7 @@ use Rattle.octave.proofs.run.answer_row.Reads as reads
 use Rattle.octave.proofs.run.answer_row.Lts as lts
 use Rattle.lines.proofs.cascade.cascade.Reads as cascade-reads
 use Rattle.octave.proofs.run.put.Reads as put-reads
-use Rattle.octave.proofs.weighing.weigh_rows.Reads as weigh-rows-reads
+use Rattle.weighing.proofs.rows.weigh_rows.Reads as weigh-rows-reads
 
 -- src/run.rt:67:5
 put-requires : tie.Need-put-requires

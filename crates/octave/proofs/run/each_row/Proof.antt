@@ -6,14 +6,14 @@ use borrow.Author.Needs.{needs}
 use lib.ListN.{length}
 use denote.Ref.{now}
 use Rattle.tree.specs.Signal.{gainOf}
-use Rattle.octave.specs.Helpers.{Differ}
-use Rattle.octave.proofs.Differing.{none-above}
+use Rattle.weighing.specs.Helpers.{Differ}
+use Rattle.weighing.proofs.Differing.{none-above}
 use Rattle.octave.proofs.Running.{Going, going-starts, row-region, out-length, going-on, going-ends}
 use Rattle.octave.proofs.run.each_row.Statement.{statement}
 use Rattle.octave.proofs.run.each_row.Tie as tie
 use Rattle.octave.proofs.run.each_row.Reads as reads
 use Rattle.octave.proofs.run.each_row.Lts as lts
-use Rattle.octave.proofs.differences.differences.Reads as differences-reads
+use Rattle.weighing.proofs.differences.differences.Reads as differences-reads
 use Rattle.octave.proofs.run.answer_row.Reads as answer-row-reads
 use Rattle.octave.proofs.run.row_length.Reads as row-length-reads
 use Rattle.octave.proofs.run.wrapped.Reads as wrapped-reads

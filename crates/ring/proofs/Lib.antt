@@ -1,0 +1,4 @@
+-- The laws of a ring and of its low-pass, by subject.
+pub mod Adding
+pub mod Taps
+pub mod Places

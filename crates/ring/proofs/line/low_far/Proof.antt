@@ -1,0 +1,126 @@
+-- `line::low_far` meets its contract. Assumes nothing.
+use mathlib.Core.Path.{_≡_}
+use lib.Dec.{lit≤}
+use denote.Ref.{now}
+use Rattle.tree.specs.Prototype.{published}
+use Rattle.ring.specs.Line.{lineSum}
+use Rattle.ring.proofs.Taps.{summed, read-new, read-tap, back-too, round-too, sum-in-reach, low-value-is}
+use borrow.Author.Needs.{needs}
+use Rattle.ring.proofs.line.low_far.Statement.{statement}
+use Rattle.ring.proofs.line.low_far.Tie as tie
+use Rattle.ring.proofs.line.low_far.Reads as reads
+use Rattle.ring.proofs.line.low_far.Lts as lts
+use Rattle.ring.proofs.line.tap_back.Reads as tap-back-reads
+use Rattle.ring.proofs.line.tap_either.Reads as tap-either-reads
+use Rattle.ring.proofs.line.tap_round.Reads as tap-round-reads
+use Rattle.ring.proofs.low.weigh.Reads as weigh-reads
+use Rattle.whole.proofs.limiting.limit_32.Reads as limit-32-reads
+use Rattle.whole.proofs.rounding.nearest_100000.Reads as nearest-100000-reads
+
+the-sum : (c : tie.After-weigh) → let a = c .before .before .before .before .before .before .before .before .before .before .before .args in c .weigh .result ≡ lineSum published (now (a .line)) (a .size) (a .at) (a .l) (a .x)
+the-sum c =
+    let c10 = c .before in
+    let c9 = c10 .before in
+    let c8 = c9 .before in
+    let c7 = c8 .before in
+    let c6 = c7 .before in
+    let c5 = c6 .before in
+    let c4 = c5 .before in
+    let c3 = c4 .before in
+    let c2 = c3 .before in
+    let c1 = c2 .before in
+    let s = c1 .before in
+    let a = s .args in
+    let line = now (a .line) in
+    let read = read-tap line (a .size) (a .at) (a .l) (a .x) in
+    summed line (a .size) (a .at) (a .l) (a .x) (read-new line (a .size) (a .at) (a .l) (s .fits .x))
+    (read 2 (c1 .tap-back .result) (lit≤ tt) (c1 .tap-back .ensures) (c1 .tap-back .ok))
+    (read 4 (c2 .tap-back2 .result) (lit≤ tt) (c2 .tap-back2 .ensures) (c2 .tap-back2 .ok))
+    (read 6 (c3 .tap-back3 .result) (lit≤ tt) (c3 .tap-back3 .ensures) (c3 .tap-back3 .ok))
+    (read 8 (c4 .tap-back4 .result) (lit≤ tt) (c4 .tap-back4 .ensures) (c4 .tap-back4 .ok))
+    (read 9 (c5 .tap-back5 .result) (lit≤ tt) (c5 .tap-back5 .ensures) (c5 .tap-back5 .ok))
+    (read 10 (c6 .tap-either .result) (lit≤ tt) (c6 .tap-either .ensures) (c6 .tap-either .ok))
+    (read 12 (c7 .tap-either2 .result) (lit≤ tt) (c7 .tap-either2 .ensures) (c7 .tap-either2 .ok))
+    (read 14 (c8 .tap-either3 .result) (lit≤ tt) (c8 .tap-either3 .ensures) (c8 .tap-either3 .ok))
+    (read 16 (c9 .tap-either4 .result) (lit≤ tt) (c9 .tap-either4 .ensures) (c9 .tap-either4 .ok))
+    (read 18 (c10 .tap-round .result) (lit≤ tt) (c10 .tap-round .ensures) (c10 .tap-round .ok))
+    (c .weigh .ensures)
+
+-- src/line.rt:67:9
+tap-back-requires : tie.Need-tap-back-requires
+tap-back-requires c κs = (c .pre .0, lit≤ tt, back-too 2 9 (c .args .l) (c .args .at) (lit≤ tt) (c .pre .1))
+
+-- src/line.rt:68:9
+tap-back-requires-2 : tie.Need-tap-back-requires-2
+tap-back-requires-2 c κs = (c .before .pre .0, lit≤ tt, back-too 4 9 (c .before .args .l) (c .before .args .at) (lit≤ tt) (c .before .pre .1))
+
+-- src/line.rt:69:9
+tap-back-requires-3 : tie.Need-tap-back-requires-3
+tap-back-requires-3 c κs = (c .before .before .pre .0, lit≤ tt, back-too 6 9 (c .before .before .args .l) (c .before .before .args .at) (lit≤ tt) (c .before .before .pre .1))
+
+-- src/line.rt:70:9
+tap-back-requires-4 : tie.Need-tap-back-requires-4
+tap-back-requires-4 c κs = (c .before .before .before .pre .0, lit≤ tt, back-too 8 9 (c .before .before .before .args .l) (c .before .before .before .args .at) (lit≤ tt) (c .before .before .before .pre .1))
+
+-- src/line.rt:71:9
+tap-back-requires-5 : tie.Need-tap-back-requires-5
+tap-back-requires-5 c κs = (c .before .before .before .before .pre .0, lit≤ tt, back-too 9 9 (c .before .before .before .before .args .l) (c .before .before .before .before .args .at) (lit≤ tt) (c .before .before .before .before .pre .1))
+
+-- src/line.rt:72:9
+tap-either-requires : tie.Need-tap-either-requires
+tap-either-requires c κs = (c .before .before .before .before .before .pre .0, lit≤ tt)
+
+-- src/line.rt:73:9
+tap-either-requires-2 : tie.Need-tap-either-requires-2
+tap-either-requires-2 c κs = (c .before .before .before .before .before .before .pre .0, lit≤ tt)
+
+-- src/line.rt:74:9
+tap-either-requires-3 : tie.Need-tap-either-requires-3
+tap-either-requires-3 c κs = (c .before .before .before .before .before .before .before .pre .0, lit≤ tt)
+
+-- src/line.rt:75:9
+tap-either-requires-4 : tie.Need-tap-either-requires-4
+tap-either-requires-4 c κs = (c .before .before .before .before .before .before .before .before .pre .0, lit≤ tt)
+
+-- src/line.rt:76:9
+tap-round-requires : tie.Need-tap-round-requires
+tap-round-requires c κs = (c .before .before .before .before .before .before .before .before .before .pre .0, lit≤ tt, round-too 18 18 (c .before .before .before .before .before .before .before .before .before .args .l) (c .before .before .before .before .before .before .before .before .before .args .at) (lit≤ tt) (c .before .before .before .before .before .before .before .before .before .pre .2))
+
+-- src/line.rt:65:9
+weigh-requires : tie.Need-weigh-requires
+weigh-requires c κs = search needs
+
+-- src/line.rt:78:14
+nearest-100000-requires : tie.Need-nearest-100000-requires
+nearest-100000-requires c κs = sum-in-reach (c .weigh .result) (c .weigh .ensures .size)
+
+-- src/line.rt:78:5
+limit-32-requires : tie.Need-limit-32-requires
+limit-32-requires c κs = search needs
+
+-- src/line.rt:61:1
+returns : tie.Need-returns
+returns c =
+    let w = c .before .before in
+    let a = w .before .before .before .before .before .before .before .before .before .before .before .args in
+    low-value-is (now (a .line)) (a .size) (a .at) (a .l) (a .x) (w .weigh .result) (c .before .nearest-100000 .result) (c .limit-32 .result) (the-sum w) (w .weigh .ensures .size)
+    (c .before .nearest-100000 .ensures) (c .limit-32 .ensures)
+
+pub low-far-spec : {M : Type 1} → statement M
+low-far-spec =
+    tie.close
+    (tie.spec
+    tap-back-requires
+    tap-back-requires-2
+    tap-back-requires-3
+    tap-back-requires-4
+    tap-back-requires-5
+    tap-either-requires
+    tap-either-requires-2
+    tap-either-requires-3
+    tap-either-requires-4
+    tap-round-requires
+    weigh-requires
+    nearest-100000-requires
+    limit-32-requires
+    returns)

@@ -1,0 +1,3 @@
+-- A line in the memory.
+pub mod Line
+pub mod Helpers

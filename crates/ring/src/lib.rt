@@ -1,0 +1,3 @@
+// One line of the memory: a ring, its taps, the low-pass and the aligned sample.
+pub mod line;
+mod low;

@@ -1,0 +1,208 @@
+-- The gain sum by differences is the gain sum by bands, and the outputs of a row. Assumes nothing.
+use mathlib.Core.Path.{_≡_, refl, sym, ap, ap₂, _∙_}
+use mathlib.Core.List.{List, [], _∷_}
+use Prim.Native.Nat.{ℕ, zero, suc, _+_, _-_, _*_, _^_, _≤_, _<_}
+use native.Mathlib.Nat.{mul-le-mul}
+use native.Mathlib.Omega.{arith}
+use native.Mathlib.Decide.{decLt}
+use lib.ListN.{length, getD, set, length-set}
+use lib.Seq.{ext-getD, getD-set-same, getD-set-other}
+use lib.IntN.{ℤ, pos, natAbs, _+ℤ_, _-ℤ_, _*ℤ_}
+use lib.Dec.{lit<, lit≤}
+use lib.Signed.{natAbs-le}
+use mir.Syntax.{w32, w64}
+use mir.Val.{SFits}
+use mir.Facts.{toZ-ofZ}
+use Rattle.answers.specs.Unit.{leastSample, mostSample, unity}
+use Rattle.whole.specs.Nearest.{nearest}
+use Rattle.whole.specs.Limit.{limit}
+use Rattle.whole.specs.Sum.{sum}
+use Rattle.whole.proofs.Signed.{var, lit, _⊕_, _⊖_, _⊗_, eq-by, about}
+use Rattle.whole.proofs.Magnitude.{abs-+ℤ, abs-*ℤ}
+use Rattle.whole.proofs.Product.{widens}
+use Rattle.whole.proofs.Sums.{sum-ext}
+use Rattle.whole.proofs.Limit.{limit24-fits}
+use Rattle.whole.proofs.Rounded.{raw, nearest-fits}
+use Rattle.lines.specs.Rows.{rowPlaces, Shown, Even, columns}
+use Rattle.lines.proofs.Columns.{shown-at, columns-length, column, column-is}
+use Rattle.weighing.specs.Weighing.{outOf, bandSum, outputs}
+use Rattle.weighing.specs.Helpers.{Differ, Small, gainSum, SumDone, RowWeighed}
+
+-- ---- the sum by differences
+
+sum-first : (n : ℕ) (f : ℕ → ℤ) → sum (suc n) f ≡ f 0 +ℤ sum n (λ k. f (suc k))
+unfolding sum
+sum-first zero f = eq-by (lit 0 ⊕ var (f 0)) (var (f 0) ⊕ lit 0) (omega arith)
+sum-first (suc n) f =
+    let s = sum n (λ k. f (suc k)) in
+    ap (λ (z : ℤ). z +ℤ f (suc n)) (sum-first n f) ∙ eq-by (var (f 0) ⊕ var s ⊕ var (f (suc n))) (var (f 0) ⊕ (var s ⊕ var (f (suc n)))) (omega arith)
+
+one-band : (g h a : ℤ) → pos 0 +ℤ (g -ℤ h) *ℤ a ≡ g *ℤ a -ℤ h *ℤ a
+one-band g h a = eq-by (lit 0 ⊕ (var g ⊖ var h) ⊗ var a) (var g ⊗ var a ⊖ var h ⊗ var a) (omega arith)
+
+one-more : (s h k a b : ℤ) → (h -ℤ k) *ℤ a +ℤ (s -ℤ h *ℤ b) ≡ (s +ℤ h *ℤ (a -ℤ b)) -ℤ k *ℤ a
+one-more s h k a b =
+    eq-by ((var h ⊖ var k) ⊗ var a ⊕ (var s ⊖ var h ⊗ var b)) ((var s ⊕ var h ⊗ (var a ⊖ var b)) ⊖ var k ⊗ var a) (omega arith)
+
+no-gain-above : (s a : ℤ) {h : ℤ} → h ≡ pos 0 → s -ℤ h *ℤ a ≡ s
+no-gain-above s a {h} e = rw e (eq-by (var s ⊖ lit 0 ⊗ var a) (var s) (omega arith))
+
+module _ (ds : List ℤ) where
+  -- from the aligned samples a(M), .., a(1)
+  unfoldable byDifferences : List ℤ → ℤ
+  byDifferences xs = sum (length xs) (λ k. getD ds (length xs - 1 - k) (pos 0) *ℤ getD xs k (pos 0))
+
+  by-differences : (g : ℕ → ℤ) (a : ℤ) (below : List ℤ) → Differ (length (a ∷ below)) g ds →
+      byDifferences (a ∷ below) ≡ bandSum g (a ∷ below) -ℤ g (suc (length (a ∷ below))) *ℤ a
+  unfolding byDifferences bandSum sum
+  by-differences g a [] d = ap (λ (z : ℤ). pos 0 +ℤ z *ℤ a) (d .at-place 0 (omega arith)) ∙ one-band (g 1) (g 2) a
+  by-differences g a (b ∷ below) d =
+      let n = length (b ∷ below) in
+      sum-first n (λ k. getD ds (suc n - 1 - k) (pos 0) *ℤ getD (a ∷ b ∷ below) k (pos 0)) ∙
+      ap₂ (λ (u v : ℤ). u *ℤ a +ℤ v) (ap (λ (j : ℕ). getD ds j (pos 0)) here ∙ d .at-place n (omega arith))
+      (sum-ext n (λ k h. ap (λ (j : ℕ). getD ds j (pos 0) *ℤ getD (b ∷ below) k (pos 0)) (down k)) ∙
+      by-differences g b below (record { at-place = λ i h. d .at-place i (omega arith) })) ∙
+      one-more (bandSum g (b ∷ below)) (g (suc n)) (g (suc (suc n))) a b
+    where
+      here : suc (length (b ∷ below)) - 1 - 0 ≡ length (b ∷ below)
+      here = omega arith
+
+      down : (k : ℕ) → suc (length (b ∷ below)) - 1 - suc k ≡ length (b ∷ below) - 1 - k
+      down k = omega arith
+
+column-length : (i : ℕ) (rows : List (List ℤ)) → length (column i rows) ≡ length rows
+unfolding column
+column-length i [] = refl
+column-length i (row ∷ rows) = ap suc (column-length i rows)
+
+column-at : (i k : ℕ) (rows : List (List ℤ)) → k < length rows → getD (column i rows) k (pos 0) ≡ getD (getD rows k []) i (pos 0)
+unfolding column
+column-at i k [] h = absurd (omega arith)
+column-at i zero (row ∷ rows) h = refl
+column-at i (suc k) (row ∷ rows) h = column-at i k rows (omega arith)
+
+-- sample i of the rows that a matrix shows
+sum-is : (g : ℕ → ℤ) (ds matrix : List ℤ) (n i : ℕ) (row : List ℤ) (rows : List (List ℤ)) → i < n → Shown n (row ∷ rows) matrix →
+    Differ (length (row ∷ rows)) g ds → g (suc (length (row ∷ rows))) ≡ pos 0 →
+    gainSum (length (row ∷ rows)) (length (row ∷ rows)) i matrix ds ≡ bandSum g (column i (row ∷ rows))
+unfolding byDifferences column
+sum-is g ds matrix n i row rows h sh d top =
+    let M = length (row ∷ rows) in
+    let x = getD row i (pos 0) in
+    let long : length (column i rows) ≡ length rows = column-length i rows in
+    sum-ext M (λ k l. ap (λ (z : ℤ). getD ds (M - 1 - k) (pos 0) *ℤ z) (shown-at n i k (row ∷ rows) matrix h l sh ∙ sym (column-at i k (row ∷ rows) l))) ∙
+    ap (λ (m : ℕ). sum m (λ k. getD ds (m - 1 - k) (pos 0) *ℤ getD (x ∷ column i rows) k (pos 0))) (ap suc (sym long)) ∙
+    by-differences ds g x (column i rows) (rw long d) ∙ no-gain-above (bandSum g (x ∷ column i rows)) x {h = g (suc (length (x ∷ column i rows)))} (rw long top)
+
+-- ---- the code's loop over the lines
+
+-- a difference times a place
+part-small : (d a : ℤ) → natAbs d ≤ 2 ^ 15 → SFits w32 a → natAbs (d *ℤ a) ≤ 2 ^ 46
+part-small d a h f = rw (abs-*ℤ d a) (mul-le-mul {n₂ = 2 ^ 15} {m₂ = 2 ^ 31} h (natAbs-le a (f .sfits)))
+
+pub weight-room : (d : ℤ) {w : ℤ} → natAbs d ≤ 2 ^ 15 → SFits w32 d → w ≡ raw w32 d → natAbs (raw w64 w) ≤ 2 ^ 30
+weight-room d h f e = rw (e, widens f .answer) (omega arith)
+
+-- the lines above line b are added; `at` is the place of the next one's sample
+pub record Summing (bands i : ℕ) (matrix ds : List ℤ) (s : ℤ) (b at : ℕ) : Type 0 where
+  pub left : b ≤ bands
+  pub place : at ≡ rowPlaces * (bands - b) + i
+  pub so-far : s ≡ gainSum (bands - b) bands i matrix ds
+  pub bounded : natAbs s ≤ (bands - b) * 2 ^ 46
+
+pub summing-starts : (bands i : ℕ) (matrix ds : List ℤ) → Summing bands i matrix ds (pos 0) bands i
+unfolding sum
+summing-starts bands i matrix ds =
+    let none : bands - bands ≡ 0 = omega arith in
+    record { left = omega arith; place = omega arith; so-far = rw none refl; bounded = omega arith }
+
+module _ {bands i : ℕ} {matrix ds : List ℤ} {s : ℤ} {b at : ℕ} (k : Summing bands i matrix ds s b at) (few : bands ≤ 10) where
+  pub sum-room : natAbs s ≤ 2 ^ 61
+  sum-room = omega (arith, k .bounded)
+
+  pub place-within : 0 < b → i < rowPlaces → rowPlaces * bands ≤ length matrix → at < length matrix
+  place-within n h l = omega (arith, k .place, k .left)
+
+  pub summing-on : {w r : ℤ} → 0 < b → Small ds → SFits w32 (getD ds (b - 1) (pos 0)) → SFits w32 (getD matrix at (pos 0)) →
+      w ≡ raw w32 (getD ds (b - 1) (pos 0)) → r ≡ s +ℤ raw w64 w *ℤ raw w32 (getD matrix at (pos 0)) →
+      Summing bands i matrix ds (raw w64 r) (b - 1) (at + rowPlaces)
+  unfolding sum
+  summing-on {w} {r} some sm fd fx ew er =
+      let d = getD ds (b - 1) (pos 0) in
+      let x = getD matrix at (pos 0) in
+      let r-is : r ≡ s +ℤ d *ℤ x = er ∙ ap₂ (λ (u v : ℤ). s +ℤ u *ℤ v) (ap (raw w64) ew ∙ widens fd .answer) (toZ-ofZ fx) in
+      let more : bands - (b - 1) ≡ suc (bands - b) = omega (arith, k .left) in
+      let small : natAbs r ≤ suc (bands - b) * 2 ^ 46 = rw r-is (omega (arith, abs-+ℤ s (d *ℤ x), part-small d x (sm .range (b - 1)) fx, k .bounded)) in
+      let back : raw w64 r ≡ r = toZ-ofZ (record { sfits = omega (arith, about r, small) }) in
+      let here : b - 1 ≡ bands - 1 - (bands - b) = omega (arith, k .left) in
+      record {
+        left = omega (arith, k .left);
+        place = omega (arith, k .place, k .left);
+        so-far =
+            back ∙ r-is ∙ ap₂ (λ (u v : ℤ). u +ℤ v *ℤ x) (k .so-far) (ap (λ (j : ℕ). getD ds j (pos 0)) here) ∙
+            ap (λ (j : ℕ). gainSum (bands - b) bands i matrix ds +ℤ getD ds (bands - 1 - (bands - b)) (pos 0) *ℤ getD matrix j (pos 0)) (k .place) ∙
+            ap (λ (n : ℕ). gainSum n bands i matrix ds) (sym more);
+        bounded = rw (back, more) small;
+      }
+
+  pub summing-ends : b ≤ 0 → SumDone bands i matrix ds s
+  summing-ends n =
+      let all : bands - b ≡ bands = omega arith in
+      record { value = k .so-far ∙ ap (λ (n : ℕ). gainSum n bands i matrix ds) all; bounded = rw all at (k .bounded) }
+
+-- ---- the outputs of a row
+
+outputs-length : (g : ℕ → ℕ → ℤ) (cols : List (List ℤ)) → length (outputs g cols) ≡ length cols
+unfolding outputs
+outputs-length g [] = refl
+outputs-length g (a ∷ cols) = ap suc (outputs-length (λ i. g (suc i)) cols)
+
+outputs-at : (g : ℕ → ℤ) (cols : List (List ℤ)) (i : ℕ) → i < length cols → getD (outputs (λ _. g) cols) i (pos 0) ≡ outOf (bandSum g (getD cols i []))
+unfolding outputs
+outputs-at g [] i h = absurd (omega arith)
+outputs-at g (a ∷ cols) zero h = refl
+outputs-at g (a ∷ cols) (suc i) h = outputs-at g cols i (omega arith)
+
+-- up to sample i the outputs stand
+pub record Written (bands : ℕ) (matrix ds output₀ output : List ℤ) (i : ℕ) : Type 0 where
+  pub same : length output ≡ length output₀
+  pub stands : (j : ℕ) → j < i → getD output j (pos 0) ≡ outOf (gainSum bands bands j matrix ds)
+
+pub written-starts : (bands : ℕ) (matrix ds output : List ℤ) → Written bands matrix ds output output 0
+written-starts bands matrix ds output = record { same = refl; stands = λ j h. absurd (omega arith) }
+
+-- what the rounding asks
+pub done-room : {bands i : ℕ} {matrix ds : List ℤ} {s : ℤ} → bands ≤ 10 → SumDone bands i matrix ds s → natAbs (raw w64 s) ≤ 2 ^ 62
+done-room {s = s} few d = rw (toZ-ofZ {w = w64} {z = s} (record { sfits = omega (arith, about s, d .bounded) })) (omega (arith, d .bounded))
+
+module _ {bands : ℕ} {matrix ds output₀ output : List ℤ} {i : ℕ} (w : Written bands matrix ds output₀ output i) where
+  pub written-on : {s n r : ℤ} → bands ≤ 10 → i < length output → SumDone bands i matrix ds s → n ≡ nearest unity (raw w64 s) → r ≡ limit leastSample mostSample (raw w64 n) →
+      Written bands matrix ds output₀ (set output i (raw w32 r)) (i + 1)
+  written-on {s} {n} {r} few h d en er =
+      let s-back : raw w64 s ≡ s = toZ-ofZ (record { sfits = omega (arith, about s, d .bounded) }) in
+      let n-is : n ≡ nearest unity s = en ∙ ap (nearest unity) s-back in
+      let n-back : raw w64 n ≡ n = toZ-ofZ (rw n-is (nearest-fits 4096 (lit< tt) (lit≤ tt) s (omega (arith, d .bounded)))) in
+      let r-is : r ≡ outOf s = er ∙ ap (limit leastSample mostSample) (n-back ∙ n-is) in
+      let back : raw w32 r ≡ outOf (gainSum bands bands i matrix ds) = toZ-ofZ (rw r-is (limit24-fits (nearest unity s))) ∙ r-is ∙ ap outOf (d .value) in
+      record { same = length-set output i (raw w32 r) ∙ w .same; stands = λ j l. by j l back (decLt j i) }
+    where
+      by : (j : ℕ) → j < i + 1 → raw w32 r ≡ outOf (gainSum bands bands i matrix ds) → Dec (j < i) →
+          getD (set output i (raw w32 r)) j (pos 0) ≡ outOf (gainSum bands bands j matrix ds)
+      by j l back (yes q) = getD-set-other output i j (raw w32 r) (pos 0) (λ z. omega arith) ∙ w .stands j q
+      by j l back (no q) = let z : j ≡ i = omega arith in rw z (getD-set-same output i (raw w32 r) (pos 0) h ∙ back)
+
+  pub written-ends : 1 ≤ bands → length output ≤ i → RowWeighed bands matrix ds output
+  written-ends some h = record { under = λ g rows d top count even sh. by g rows d top count even sh }
+    where
+      by : (g : ℕ → ℤ) (rows : List (List ℤ)) → Differ bands g ds → g (suc bands) ≡ pos 0 → length rows ≡ bands → Even (length output) rows →
+          Shown (length output) rows matrix → output ≡ outputs (λ _. g) (columns rows)
+      by g [] d top count even sh = absurd (omega arith)
+      by g (row ∷ rows) d top count even sh =
+          let cols = columns (row ∷ rows) in
+          let n = length output in
+          let long : length cols ≡ n = columns-length n row rows even in
+          ext-getD (pos 0) output (outputs (λ _. g) cols) (sym (outputs-length (λ _. g) cols ∙ long))
+          (λ j l. w .stands j (omega arith) ∙
+          ap outOf (ap (λ (m : ℕ). gainSum m m j matrix ds) (sym count) ∙ sum-is g ds matrix n j row rows l sh (rw count d) (rw count top) ∙
+          ap (bandSum g) (sym (column-is n j row rows l even))) ∙
+          sym (outputs-at g cols j (omega arith)))
