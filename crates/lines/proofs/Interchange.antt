@@ -6,12 +6,12 @@ use Prim.Native.Nat.{ℕ, zero, suc, _+_, _-_, _*_, _^_, _≤_, _<_}
 use native.Mathlib.Nat.{pow-succ', mul-le-mul-left}
 use native.Mathlib.Omega.{arith}
 use lib.Pow.{pow-mono}
-use lib.ListN.{length, take, drop, set, length-set, length-drop, length-append, take-append-drop}
+use lib.ListN.{length, take, drop, set, length-set, length-drop, take-append-drop}
 use lib.Seq.{take-at, drop-at, set-append-left, length-take-le}
 use lib.IntN.{ℤ}
 use Rattle.tree.specs.Prototype.{Prototype}
 use Rattle.ring.specs.Line.{lowValue, lateValue}
-use Rattle.lines.specs.Cascade.{Stepped, step}
+use Rattle.lines.specs.Cascade.{step}
 use Rattle.lines.specs.Rows.{Lined, Rowed, line, rowed, before, columns, Even}
 use Rattle.ring.specs.Helpers.{Centred}
 use Rattle.ring.proofs.Places.{low-same, late-same}

@@ -1,14 +1,13 @@
 -- The lines of some bands: what a row of the first line asks, and the lines behind it. Over any prototype. Assumes nothing.
-use mathlib.Core.Path.{_≡_, refl, sym, ap, _∙_}
+use mathlib.Core.Path.{_≡_, refl, ap, _∙_}
 use mathlib.Core.List.{List}
-use Prim.Native.Nat.{ℕ, zero, suc, _+_, _-_, _*_, _^_, _≤_, _<_}
-use native.Mathlib.Nat.{pow-succ', mul-assoc, mul-le-mul-left, mul-le-mul-right}
+use Prim.Native.Nat.{ℕ, zero, suc, _-_, _*_, _^_, _≤_}
+use native.Mathlib.Nat.{pow-succ', mul-le-mul-left, mul-le-mul-right}
 use native.Mathlib.Omega.{arith}
 use lib.Pow.{pow-mono}
 use lib.ListN.{length, drop, length-drop}
 use lib.IntN.{ℤ}
 use Rattle.tree.specs.Prototype.{Prototype}
-use Rattle.lines.specs.Rows.{rowPlaces}
 use Rattle.lines.specs.Helpers.{Part, Region, RowRegion}
 
 pub less-one : (b : ℕ) → suc (suc b) - 1 ≡ suc b

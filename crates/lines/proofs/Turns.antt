@@ -1,7 +1,7 @@
 -- Samples in turn, row after row: what is left after a row is the run from the position after it. Assumes nothing.
 use mathlib.Core.Path.{_≡_, refl, sym, ap, _∙_}
 use mathlib.Core.List.{List, [], _∷_, _++_}
-use Prim.Native.Nat.{ℕ, zero, suc, _+_, _-_, _*_, _^_, _≤_, _<_}
+use Prim.Native.Nat.{ℕ, suc, _+_, _-_, _*_, _^_, _≤_, _<_}
 use native.Mathlib.Omega.{arith}
 use borrow.Author.Tests.{lt-ltb}
 use lib.ListN.{length}
@@ -11,7 +11,7 @@ use Rattle.ring.specs.Line.{next}
 use Rattle.lines.specs.Cascade.{Ran, step, run}
 use Rattle.lines.specs.Rows.{wrapped, columns, rowed}
 use Rattle.ring.specs.Helpers.{Centred}
-use Rattle.lines.proofs.Interchange.{Passed, passed, read, rows-are}
+use Rattle.lines.proofs.Interchange.{Passed, passed, rows-are}
 
 -- a run after some samples have passed
 abbrev pub after : Passed → Ran → Ran

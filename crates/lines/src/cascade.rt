@@ -1,5 +1,4 @@
 // The cascade: a row of samples goes down the lines, each line's aligned row is left in the matrix.
-ghost use mathlib.Core.Path.{_≡_};
 ghost use Prim.Native.Nat.{_-_};
 ghost use lib.ListN.{take};
 ghost use Rattle.tree.specs.Prototype.{published};

@@ -1,8 +1,8 @@
 // One line over a row, in place: the row stands first in the matrix and leaves the line's aligned row there, with the low row behind it. For
 // each sample its aligned sample and its low sample, then the store.
 ghost use mathlib.Core.Path.{_≡_};
-ghost use Prim.Native.Nat.{_≤_, _+_, _*_, _-_, min};
-ghost use lib.ListN.{length, take};
+ghost use Prim.Native.Nat.{_+_, _*_, _-_, min};
+ghost use lib.ListN.{take};
 ghost use lib.Seq.{slice};
 ghost use Rattle.tree.specs.Prototype.{published};
 ghost use Rattle.lines.specs.Rows.{rowPlaces, line};

@@ -6,7 +6,7 @@ use Prim.Native.Nat.{ℕ, suc, _+_, _-_, _*_, _^_, _≤_, _<_}
 use native.Mathlib.Omega.{arith}
 use borrow.Author.Tests.{lt-ltb, le-ltb, ltb-true}
 use borrow.Rule.Slice.PartMut.{putMid, same-len-mid}
-use lib.Dec.{ltb, lit≤}
+use lib.Dec.{ltb}
 use lib.ListN.{length, getD, take, drop, set, length-set, length-drop, length-append, take-append-drop, drop-of-length-le}
 use lib.Seq.{slice, slice-cons, slice-empty, take-suc-set, append-snoc, drop-drop, length-take-le, take-all, take-at}
 use lib.IntN.{ℤ, pos}
@@ -18,7 +18,6 @@ use Rattle.whole.proofs.Rounded.{raw}
 use Rattle.tree.specs.Prototype.{published}
 use Rattle.lines.specs.Cascade.{Ran, run}
 use Rattle.lines.specs.Rows.{rowPlaces, wrapped, rowed, columns}
-use Rattle.ring.specs.Helpers.{Centred}
 use Rattle.lines.specs.Helpers.{Region, RowRegion, RowsDone}
 use Rattle.ring.proofs.Places.{published-centred}
 use Rattle.lines.proofs.Interchange.{rows-count, rows-even}

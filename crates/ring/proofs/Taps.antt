@@ -6,8 +6,7 @@ use native.Mathlib.Nat.{mul-comm, mul-le-mul-right, le-trans}
 use native.Mathlib.Omega.{arith}
 use borrow.Author.Tests.{le-leb, lt-leb}
 use lib.Dec.{lit<, lit≤}
-use lib.ListN.{length, getD, take, drop}
-use lib.Seq.{getD-take, getD-drop}
+use lib.ListN.{getD}
 use lib.IntN.{ℤ, pos, natAbs, _*ℤ_}
 use lib.Signed.{mag}
 use mir.Syntax.{w32, w64}

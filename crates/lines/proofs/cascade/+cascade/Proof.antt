@@ -33,53 +33,41 @@ first-row : (t : ℕ) (s : cascade-lts.Start (calls t) (cascade-at t) cascade.Po
     Part published (now (s .args .lines)) (s .args .size) (s .args .at) (s .args .l) 0 (s .args .n) (now (s .args .rows))
 first-row t s more = row-of published (s .args .size) (s .args .at) (s .args .l) (s .args .bands) (s .args .n) (now (s .args .lines)) (now (s .args .rows)) more (s .pre .1)
 
--- src/cascade.rt:26:9
 cascade-returns : (t : ℕ) → cascade-lts.Need-returns (calls t) (cascade-at t) cascade.Post
 cascade-returns t c =
     let a = c .before .args in
     one-band published (a .size) (a .at) (a .l) (a .n) (now (a .lines)) (now (a .rows)) (a .bands) (c .if1 .taken)
 
--- src/cascade.rt:28:5
 cascade-line-over-requires : (t : ℕ) → cascade-lts.Need-line-over-requires (calls t) (cascade-at t) cascade.Post
 cascade-line-over-requires t c κs = first-row t (c .before .before .before) (c .before .before .if1 .left)
 
--- src/cascade.rt:30:9
 cascade-mul-cascade : (t : ℕ) → cascade-lts.Need-mul-cascade (calls t) (cascade-at t) cascade.Post
 cascade-mul-cascade t c = search needs
 
--- src/cascade.rt:30:9
 cascade-sub-cascade : (t : ℕ) → cascade-lts.Need-sub-cascade (calls t) (cascade-at t) cascade.Post
 cascade-sub-cascade t c = omega (arith, first-row t (c .before .before .before .before .before .before) (c .before .before .before .before .before .if1 .left) .held, c .before .before .line-over .kept .0)
 
--- src/cascade.rt:30:9
 cascade-part-cascade-start : (t : ℕ) → cascade-lts.Need-part-cascade-start (calls t) (cascade-at t) cascade.Post
 cascade-part-cascade-start t c = omega (arith, first-row t (c .before .before .before .before .before .before) (c .before .before .before .before .before .if1 .left) .held, c .before .before .line-over .kept .0)
 
--- src/cascade.rt:30:9
 cascade-part-cascade-end : (t : ℕ) → cascade-lts.Need-part-cascade-end (calls t) (cascade-at t) cascade.Post
 cascade-part-cascade-end t c = search needs
 
--- src/cascade.rt:33:9
 cascade-mul-cascade-2 : (t : ℕ) → cascade-lts.Need-mul-cascade-2 (calls t) (cascade-at t) cascade.Post
 cascade-mul-cascade-2 t c = omega (arith, first-row t (c .before .before .before .before .before .before .before) (c .before .before .before .before .before .before .if1 .left) .reach, first-row t (c .before .before .before .before .before .before .before) (c .before .before .before .before .before .before .if1 .left) .small)
 
--- src/cascade.rt:34:9
 cascade-sub-cascade-2 : (t : ℕ) → cascade-lts.Need-sub-cascade-2 (calls t) (cascade-at t) cascade.Post
 cascade-sub-cascade-2 t c = search needs
 
--- src/cascade.rt:36:9
 cascade-sub-cascade-3 : (t : ℕ) → cascade-lts.Need-sub-cascade-3 (calls t) (cascade-at t) cascade.Post
 cascade-sub-cascade-3 t c = search needs
 
--- src/cascade.rt:36:9
 cascade-part-cascade-start-2 : (t : ℕ) → cascade-lts.Need-part-cascade-start-2 (calls t) (cascade-at t) cascade.Post
 cascade-part-cascade-start-2 t c = search needs
 
--- src/cascade.rt:36:9
 cascade-part-cascade-end-2 : (t : ℕ) → cascade-lts.Need-part-cascade-end-2 (calls t) (cascade-at t) cascade.Post
 cascade-part-cascade-end-2 t c = search needs
 
--- src/cascade.rt:29:5
 cascade-cascade-requires : (t : ℕ) → cascade-lts.Need-cascade-requires (calls t) (cascade-at t) cascade.Post
 cascade-cascade-requires t c κs =
     let s = c .before .before .before .before .before .before .before .before in
@@ -89,15 +77,12 @@ cascade-cascade-requires t c κs =
       region-below published (a .size) (a .at) (a .l) (a .n) (now (a .lines)) (now (a .rows)) (a .bands) (over .last .0) (over .last .1 .1 .1 .1 .1 .0) (c .before .before .before .before .before .before .before .if1 .left) (s .pre .1) (over .kept .0) (over .kept .1 .1 .1 .1 .1 .0),
     )
 
--- src/cascade.rt:13:1
 cascade-same-length : (t : ℕ) → cascade-lts.Need-same-length (calls t) (cascade-at t) cascade.Post
 cascade-same-length t c = search needs
 
--- src/cascade.rt:13:1
 cascade-same-length-2 : (t : ℕ) → cascade-lts.Need-same-length-2 (calls t) (cascade-at t) cascade.Post
 cascade-same-length-2 t c = search needs
 
--- src/cascade.rt:13:1
 cascade-returns-2 : (t : ℕ) → cascade-lts.Need-returns-2 (calls t) (cascade-at t) cascade.Post
 cascade-returns-2 t c =
     let s = c .before .before .before .before .before .before .before .before .before .before .before in

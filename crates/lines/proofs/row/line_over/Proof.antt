@@ -10,12 +10,6 @@ use Rattle.lines.proofs.Parts.{parts, starting, part-of-row, Cuts, cuts
 use borrow.Author.Needs.{needs}
 use Rattle.lines.proofs.row.line_over.Statement.{statement}
 use Rattle.lines.proofs.row.line_over.Tie as tie
-use Rattle.lines.proofs.row.line_over.Reads as reads
-use Rattle.lines.proofs.row.line_over.Lts as lts
-use Rattle.lines.proofs.row.up_to.Reads as up-to-reads
-use Rattle.lines.proofs.row.far.Reads as far-reads
-use Rattle.lines.proofs.row.near.Reads as near-reads
-use Rattle.lines.proofs.row.straight.Reads as straight-reads
 
 the-cuts : (c : tie.After-up-to2) → let a = c .before .before .args in Cuts (a .at) (a .l) (a .n) (c .before .up-to .result) (c .up-to2 .result) (a .size)
 the-cuts c =
@@ -23,23 +17,18 @@ the-cuts c =
     let a = s .args in
     cuts (a .size) (a .at) (a .l) (a .n) (c .before .up-to .result) (c .up-to2 .result) (s .pre .before-end) (c .before .up-to .ensures) (c .up-to2 .ensures)
 
--- src/row.rt:108:20
 mul-up-to : tie.Need-mul-up-to
 mul-up-to c = search needs
 
--- src/row.rt:108:9
 up-to-requires : tie.Need-up-to-requires
 up-to-requires c κs = search needs
 
--- src/row.rt:109:20
 mul-up-to-2 : tie.Need-mul-up-to-2
 mul-up-to-2 c = search needs
 
--- src/row.rt:109:9
 up-to-requires-2 : tie.Need-up-to-requires-2
 up-to-requires-2 c κs = search needs
 
--- src/row.rt:110:5
 near-requires : tie.Need-near-requires
 near-requires c κs =
     let c2 = c .before .before in
@@ -47,11 +36,10 @@ near-requires c κs =
     let a = s .args in
     let k = the-cuts c2 in (
       part-of-row published (a .size) (a .at) (a .l) (a .n) (now (a .lines)) (now (a .rows)) (s .pre) 0 (c2 .before .up-to .result) (now (a .lines)) (now (a .rows))
-      (omega arith) (omega (arith, k .first, k .second)) refl refl,
+          (omega arith) (omega (arith, k .first, k .second)) refl refl,
       k .near,
     )
 
--- src/row.rt:111:5
 far-requires : tie.Need-far-requires
 far-requires c κs =
     let c2 = c .before .before .before .before .before .before .before in
@@ -60,11 +48,10 @@ far-requires c κs =
     let k = the-cuts c2 in
     let near = c .before .before .before .before .near in (
       part-of-row published (a .size) (a .at) (a .l) (a .n) (now (a .lines)) (now (a .rows)) (s .pre) (c2 .before .up-to .result) (c2 .up-to2 .result) (near .last .0) (near .last .1 .1 .1 .1 .1 .1 .0)
-      (k .first) (k .second) (near .kept .0) (near .kept .1 .1 .1 .1 .1 .1 .0),
+          (k .first) (k .second) (near .kept .0) (near .kept .1 .1 .1 .1 .1 .1 .0),
       k .far,
     )
 
--- src/row.rt:112:5
 straight-requires : tie.Need-straight-requires
 straight-requires c κs =
     let c2 = c .before .before .before .before .before .before .before .before .before .before .before .before in
@@ -74,19 +61,16 @@ straight-requires c κs =
     let near = c .before .before .before .before .before .before .before .before .before .near in
     let far = c .before .before .before .before .far in (
       part-of-row published (a .size) (a .at) (a .l) (a .n) (now (a .lines)) (now (a .rows)) (s .pre) (c2 .up-to2 .result) (a .n) (far .last .0) (far .last .1 .1 .1 .1 .1 .1 .0)
-      (k .second) (omega arith) (far .kept .0 ∙ near .kept .0) (far .kept .1 .1 .1 .1 .1 .1 .0 ∙ near .kept .1 .1 .1 .1 .1 .1 .0),
+          (k .second) (omega arith) (far .kept .0 ∙ near .kept .0) (far .kept .1 .1 .1 .1 .1 .1 .0 ∙ near .kept .1 .1 .1 .1 .1 .1 .0),
       k .straight,
     )
 
--- src/row.rt:97:1
 same-length : tie.Need-same-length
 same-length c = search needs
 
--- src/row.rt:97:1
 same-length-2 : tie.Need-same-length-2
 same-length-2 c = search needs
 
--- src/row.rt:97:1
 returns : tie.Need-returns
 returns c =
     let c2 = c .before .before .before .before .before .before .before .before .before .before .before .before .before .before .before in

@@ -4,15 +4,12 @@ use borrow.Author.Needs.{needs}
 use Rattle.octave.proofs.layout.line_length.Statement.{statement}
 use Rattle.octave.proofs.layout.line_length.Tie as tie
 
--- src/layout.rt:11:11
 sub-result : tie.Need-sub-result
 sub-result c = search needs
 
--- src/layout.rt:11:5
 shl-result : tie.Need-shl-result
 shl-result c = search needs
 
--- src/layout.rt:7:1
 returns : tie.Need-returns
 returns c = shift-exact (c .args .bands) (c .pre .1)
 

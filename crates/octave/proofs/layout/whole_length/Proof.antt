@@ -7,23 +7,18 @@ use borrow.Author.Needs.{needs}
 use Rattle.octave.proofs.layout.whole_length.Statement.{statement}
 use Rattle.octave.proofs.layout.whole_length.Tie as tie
 
--- src/layout.rt:19:10
 sub-result : tie.Need-sub-result
 sub-result c = search needs
 
--- src/layout.rt:19:23
 line-length-requires : tie.Need-line-length-requires
 line-length-requires c κs = search needs
 
--- src/layout.rt:19:9
 mul-result : tie.Need-mul-result
 mul-result c = record { fits = rw (c .line-length .ensures) (omega (arith, lines-small (c .before .args .bands) (c .before .pre .1))) }
 
--- src/layout.rt:19:5
 add-result : tie.Need-add-result
 add-result c = record { fits = rw (c .line-length .ensures) (omega (arith, lines-small (c .before .args .bands) (c .before .pre .1))) }
 
--- src/layout.rt:15:1
 returns : tie.Need-returns
 returns c = ap (λ (k : ℕ). 2 + (c .before .args .bands - 1) * k) (c .line-length .ensures)
 

@@ -1,41 +1,38 @@
 -- `run::answer_row` meets its contract. Assumes nothing.
 use mathlib.Core.Path.{_∙_}
+use native.Mathlib.Omega.{arith}
 use denote.Ref.{now}
 use Rattle.octave.proofs.Running.{row-answered}
 use borrow.Author.Needs.{needs}
 use Rattle.octave.proofs.run.answer_row.Statement.{statement}
 use Rattle.octave.proofs.run.answer_row.Tie as tie
-use Rattle.octave.proofs.run.answer_row.Reads as reads
-use Rattle.octave.proofs.run.answer_row.Lts as lts
-use Rattle.lines.proofs.cascade.cascade.Reads as cascade-reads
-use Rattle.octave.proofs.run.put.Reads as put-reads
-use Rattle.weighing.proofs.rows.weigh_rows.Reads as weigh-rows-reads
 
--- src/run.rt:67:5
 put-requires : tie.Need-put-requires
-put-requires c κs = search needs
+put-requires c κs = let row = c .before .pre .0 in omega (arith, row .short, row .room, row .region .some)
 
--- src/run.rt:68:5
 cascade-requires : tie.Need-cascade-requires
-cascade-requires c κs = search needs
+cascade-requires c κs =
+    let put = c .before .before .before .put in
+    let row = c .before .before .before .before .before .pre .0 in
+    record { region = row .region; short = row .short; before-end = row .before-end; room = omega (arith, row .room, put .kept .1 .0) }
 
--- src/run.rt:69:5
 weigh-rows-requires : tie.Need-weigh-rows-requires
-weigh-rows-requires c κs = search needs
+weigh-rows-requires c κs =
+    let put = c .before .before .before .before .before .before .before .before .put in
+    let cascade = c .before .before .before .before .cascade in
+    let s = c .before .before .before .before .before .before .before .before .before .before in
+    let row = s .pre .0 in
+    (row .region .some, row .region .few, omega (arith, s .pre .2, row .short), omega (arith, row .room, put .kept .1 .0, cascade .kept .1 .1 .1 .1 .1 .1 .0), s .pre .1)
 
--- src/run.rt:54:1
 same-length : tie.Need-same-length
 same-length c = search needs
 
--- src/run.rt:54:1
 same-length-2 : tie.Need-same-length-2
 same-length-2 c = search needs
 
--- src/run.rt:54:1
 same-length-3 : tie.Need-same-length-3
 same-length-3 c = search needs
 
--- src/run.rt:54:1
 returns : tie.Need-returns
 returns c =
     let s = c .before .before .before .before .before .before .before .before .before .before .before .before in

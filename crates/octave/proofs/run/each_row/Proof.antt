@@ -11,12 +11,6 @@ use Rattle.weighing.proofs.Differing.{none-above}
 use Rattle.octave.proofs.Running.{Going, going-starts, row-region, out-length, going-on, going-ends}
 use Rattle.octave.proofs.run.each_row.Statement.{statement}
 use Rattle.octave.proofs.run.each_row.Tie as tie
-use Rattle.octave.proofs.run.each_row.Reads as reads
-use Rattle.octave.proofs.run.each_row.Lts as lts
-use Rattle.weighing.proofs.differences.differences.Reads as differences-reads
-use Rattle.octave.proofs.run.answer_row.Reads as answer-row-reads
-use Rattle.octave.proofs.run.row_length.Reads as row-length-reads
-use Rattle.octave.proofs.run.wrapped.Reads as wrapped-reads
 
 abbrev Inv-loop : tie.InvT-loop
 Inv-loop lines₀ size from bands gains input rows₀ output₀ differences at₀ i₀ lines rows output at i =
@@ -30,61 +24,47 @@ abbrev μ-loop : tie.MeasureT-loop
 differ : (c : tie.After-differences Inv-loop μ-loop) → Differ (c .before .args .bands) (gainOf (now (c .before .args .gains))) (c .differences .result)
 differ c = rw (c .before .pre .2 .counted) at (c .differences .ensures .0)
 
--- src/run.rt:86:23
 differences-requires : tie.Need-differences-requires Inv-loop μ-loop
 differences-requires c κs = (omega (arith, c .pre .2 .counted, c .pre .0 .few), record { counted = refl; range = c .pre .2 .range })
 
--- src/run.rt:89:5
 loop-holds : tie.Need-loop-holds Inv-loop μ-loop
 loop-holds c =
     let a = c .before .args in
     going-starts (a .bands) (a .size) (a .from) (gainOf (now (a .gains))) (now (a .lines)) (now (a .input)) (now (a .rows)) (now (a .output)) (c .before .pre .1)
 
--- src/run.rt:90:38
 sub-row-length : tie.Need-sub-row-length Inv-loop μ-loop
 sub-row-length c = search needs
 
--- src/run.rt:90:13
 row-length-requires : tie.Need-row-length-requires Inv-loop μ-loop
 row-length-requires c κs = (c .before .loop .inv .inside, omega (arith, c .loop-test .taken))
 
--- src/run.rt:91:19
 add-end : tie.Need-add-end Inv-loop μ-loop
 add-end c = search needs
 
--- src/run.rt:98:13
 mul-answer-row : tie.Need-mul-answer-row Inv-loop μ-loop
 mul-answer-row c = search needs
 
--- src/run.rt:98:13
 sub-answer-row : tie.Need-sub-answer-row Inv-loop μ-loop
 sub-answer-row c = search needs
 
--- src/run.rt:98:13
 part-answer-row-start : tie.Need-part-answer-row-start Inv-loop μ-loop
 part-answer-row-start c = search needs
 
--- src/run.rt:98:13
 part-answer-row-end : tie.Need-part-answer-row-end Inv-loop μ-loop
 part-answer-row-end c = search needs
 
--- src/run.rt:100:13
 mul-answer-row-2 : tie.Need-mul-answer-row-2 Inv-loop μ-loop
 mul-answer-row-2 c = search needs
 
--- src/run.rt:100:13
 sub-answer-row-2 : tie.Need-sub-answer-row-2 Inv-loop μ-loop
 sub-answer-row-2 c = search needs
 
--- src/run.rt:100:13
 part-answer-row-start-2 : tie.Need-part-answer-row-start-2 Inv-loop μ-loop
 part-answer-row-start-2 c = search needs
 
--- src/run.rt:100:13
 part-answer-row-end-2 : tie.Need-part-answer-row-end-2 Inv-loop μ-loop
 part-answer-row-end-2 c = search needs
 
--- src/run.rt:92:9
 answer-row-requires : tie.Need-answer-row-requires Inv-loop μ-loop
 answer-row-requires c κs =
     let s = c .before .before .before .before .before .before .before .before .before in
@@ -97,21 +77,17 @@ answer-row-requires c κs =
       out-length (l .inv) (s .pre .0) (s .pre .3) (s .pre .4) n (short .2),
     )
 
--- src/run.rt:102:28
 add-wrapped : tie.Need-add-wrapped Inv-loop μ-loop
 add-wrapped c = search needs
 
--- src/run.rt:102:9
 wrapped-requires : tie.Need-wrapped-requires Inv-loop μ-loop
 wrapped-requires c κs = c .before .before .before .before .before .before .before .before .before .row-length .ensures .3
 
--- src/run.rt:89:5
 loop-less : tie.Need-loop-less Inv-loop μ-loop
 loop-less c =
     let short = c .before .before .before .before .before .before .before .before .before .before .row-length .ensures in
     omega (arith, short .0, short .2)
 
--- src/run.rt:89:5
 loop-again : tie.Need-loop-again Inv-loop μ-loop
 loop-again c =
     let s = c .before .before .before .before .before .before .before .before .before .before .before .before .before .before in
@@ -125,19 +101,15 @@ loop-again c =
     (row .kept .0) (row .kept .1 .1 .1 .1 .1 .1 .0) (row .kept .1 .1 .1 .1 .1 .1 .1 .0)
     (differ (c .before .before .before .before .before .before .before .before .before .before .before .before .before)) (none-above (now (a .gains)) (s .pre .2 .counted)) (row .ensures))
 
--- src/run.rt:73:1
 same-length : tie.Need-same-length Inv-loop μ-loop
 same-length c = c .before .loop .inv .same-lines
 
--- src/run.rt:73:1
 same-length-2 : tie.Need-same-length-2 Inv-loop μ-loop
 same-length-2 c = c .before .loop .inv .same-rows
 
--- src/run.rt:73:1
 same-length-3 : tie.Need-same-length-3 Inv-loop μ-loop
 same-length-3 c = c .before .loop .inv .same-output
 
--- src/run.rt:73:1
 returns : tie.Need-returns Inv-loop μ-loop
 returns c =
     let s = c .before .before .before in

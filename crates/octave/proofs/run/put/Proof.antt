@@ -6,8 +6,6 @@ use denote.Ref.{now}
 use Rattle.octave.proofs.Running.{Putting, putting-starts, putting-on, putting-ends}
 use Rattle.octave.proofs.run.put.Statement.{statement}
 use Rattle.octave.proofs.run.put.Tie as tie
-use Rattle.octave.proofs.run.put.Reads as reads
-use Rattle.octave.proofs.run.put.Lts as lts
 
 abbrev Inv-loop : tie.InvT-loop
 Inv-loop input rows₀ i₀ rows i = Putting input rows₀ rows i
@@ -15,46 +13,36 @@ Inv-loop input rows₀ i₀ rows i = Putting input rows₀ rows i
 abbrev μ-loop : tie.MeasureT-loop
 μ-loop input rows₀ i₀ rows i = length input - i
 
--- src/run.rt:47:5
 loop-holds : tie.Need-loop-holds Inv-loop μ-loop
 loop-holds c = putting-starts (now (c .args .input)) (now (c .args .rows))
 
--- src/run.rt:48:19
 mul-rows : tie.Need-mul-rows Inv-loop μ-loop
 mul-rows c = search needs
 
--- src/run.rt:48:19
 shared-slice-copy-out-rows : tie.Need-shared-slice-copy-out-rows Inv-loop μ-loop
 shared-slice-copy-out-rows c = search needs
 
--- src/run.rt:48:9
 mul-t8 : tie.Need-mul-t8 Inv-loop μ-loop
 mul-t8 c = search needs
 
--- src/run.rt:48:9
 slice-set-from-rows : tie.Need-slice-set-from-rows Inv-loop μ-loop
 slice-set-from-rows c = search needs
 
--- src/run.rt:49:9
 add-i : tie.Need-add-i Inv-loop μ-loop
 add-i c = search needs
 
--- src/run.rt:47:5
 loop-less : tie.Need-loop-less Inv-loop μ-loop
 loop-less c = search needs
 
--- src/run.rt:47:5
 loop-again : tie.Need-loop-again Inv-loop μ-loop
 loop-again c =
     let s = c .before .before .before in
     let g = c .before .before .loop in
     putting-on (now (s .args .input)) (now (s .args .rows)) (g .rows) (g .i) (g .inv) (c .before .loop-test .taken) (s .pre) (sfits-of (c .rows .given))
 
--- src/run.rt:42:1
 same-length : tie.Need-same-length Inv-loop μ-loop
 same-length c = search needs
 
--- src/run.rt:42:1
 returns : tie.Need-returns Inv-loop μ-loop
 returns c = putting-ends (now (c .before .before .args .input)) (now (c .before .before .args .rows)) (c .before .loop .rows) (c .before .loop .i) (c .before .loop .inv) (c .loop-test .left)
 

@@ -4,40 +4,30 @@ use Rattle.ring.proofs.Taps.{late-ahead, late-round}
 use borrow.Author.Needs.{needs, sfits-of}
 use Rattle.ring.proofs.line.late_value.Statement.{statement}
 use Rattle.ring.proofs.line.late_value.Tie as tie
-use Rattle.ring.proofs.line.late_value.Reads as reads
-use Rattle.ring.proofs.line.late_value.Lts as lts
 
--- src/line.rt:107:22
 mul-ahead : tie.Need-mul-ahead
 mul-ahead c = search needs
 
--- src/line.rt:107:17
 add-ahead : tie.Need-add-ahead
 add-ahead c = search needs
 
--- src/line.rt:109:16
 mul-result : tie.Need-mul-result
 mul-result c = search needs
 
--- src/line.rt:109:16
 shared-slice-copy-out-result : tie.Need-shared-slice-copy-out-result
 shared-slice-copy-out-result c = search needs
 
--- src/line.rt:109:9
 returns : tie.Need-returns
 returns c =
     let s = c .before .before in
     late-ahead (now (s .args .line)) (s .args .size) (s .args .at) (s .args .l) (s .pre .reach) (c .before .if1 .taken) (sfits-of (c .result .given))
 
--- src/line.rt:111:5
 mul-result-2 : tie.Need-mul-result-2
 mul-result-2 c = search needs
 
--- src/line.rt:111:5
 shared-slice-copy-out-result-2 : tie.Need-shared-slice-copy-out-result-2
 shared-slice-copy-out-result-2 c = search needs
 
--- src/line.rt:103:1
 returns-2 : tie.Need-returns-2
 returns-2 c =
     let s = c .before .before in

@@ -8,14 +8,6 @@ use Rattle.ring.proofs.Taps.{summed, read-new, read-tap, back-too, roun
 use borrow.Author.Needs.{needs}
 use Rattle.ring.proofs.line.low_far.Statement.{statement}
 use Rattle.ring.proofs.line.low_far.Tie as tie
-use Rattle.ring.proofs.line.low_far.Reads as reads
-use Rattle.ring.proofs.line.low_far.Lts as lts
-use Rattle.ring.proofs.line.tap_back.Reads as tap-back-reads
-use Rattle.ring.proofs.line.tap_either.Reads as tap-either-reads
-use Rattle.ring.proofs.line.tap_round.Reads as tap-round-reads
-use Rattle.ring.proofs.low.weigh.Reads as weigh-reads
-use Rattle.whole.proofs.limiting.limit_32.Reads as limit-32-reads
-use Rattle.whole.proofs.rounding.nearest_100000.Reads as nearest-100000-reads
 
 the-sum : (c : tie.After-weigh) → let a = c .before .before .before .before .before .before .before .before .before .before .before .args in c .weigh .result ≡ lineSum published (now (a .line)) (a .size) (a .at) (a .l) (a .x)
 the-sum c =
@@ -46,59 +38,45 @@ the-sum c =
     (read 18 (c10 .tap-round .result) (lit≤ tt) (c10 .tap-round .ensures) (c10 .tap-round .ok))
     (c .weigh .ensures)
 
--- src/line.rt:67:9
 tap-back-requires : tie.Need-tap-back-requires
 tap-back-requires c κs = (c .pre .0, lit≤ tt, back-too 2 9 (c .args .l) (c .args .at) (lit≤ tt) (c .pre .1))
 
--- src/line.rt:68:9
 tap-back-requires-2 : tie.Need-tap-back-requires-2
 tap-back-requires-2 c κs = (c .before .pre .0, lit≤ tt, back-too 4 9 (c .before .args .l) (c .before .args .at) (lit≤ tt) (c .before .pre .1))
 
--- src/line.rt:69:9
 tap-back-requires-3 : tie.Need-tap-back-requires-3
 tap-back-requires-3 c κs = (c .before .before .pre .0, lit≤ tt, back-too 6 9 (c .before .before .args .l) (c .before .before .args .at) (lit≤ tt) (c .before .before .pre .1))
 
--- src/line.rt:70:9
 tap-back-requires-4 : tie.Need-tap-back-requires-4
 tap-back-requires-4 c κs = (c .before .before .before .pre .0, lit≤ tt, back-too 8 9 (c .before .before .before .args .l) (c .before .before .before .args .at) (lit≤ tt) (c .before .before .before .pre .1))
 
--- src/line.rt:71:9
 tap-back-requires-5 : tie.Need-tap-back-requires-5
 tap-back-requires-5 c κs = (c .before .before .before .before .pre .0, lit≤ tt, back-too 9 9 (c .before .before .before .before .args .l) (c .before .before .before .before .args .at) (lit≤ tt) (c .before .before .before .before .pre .1))
 
--- src/line.rt:72:9
 tap-either-requires : tie.Need-tap-either-requires
 tap-either-requires c κs = (c .before .before .before .before .before .pre .0, lit≤ tt)
 
--- src/line.rt:73:9
 tap-either-requires-2 : tie.Need-tap-either-requires-2
 tap-either-requires-2 c κs = (c .before .before .before .before .before .before .pre .0, lit≤ tt)
 
--- src/line.rt:74:9
 tap-either-requires-3 : tie.Need-tap-either-requires-3
 tap-either-requires-3 c κs = (c .before .before .before .before .before .before .before .pre .0, lit≤ tt)
 
--- src/line.rt:75:9
 tap-either-requires-4 : tie.Need-tap-either-requires-4
 tap-either-requires-4 c κs = (c .before .before .before .before .before .before .before .before .pre .0, lit≤ tt)
 
--- src/line.rt:76:9
 tap-round-requires : tie.Need-tap-round-requires
 tap-round-requires c κs = (c .before .before .before .before .before .before .before .before .before .pre .0, lit≤ tt, round-too 18 18 (c .before .before .before .before .before .before .before .before .before .args .l) (c .before .before .before .before .before .before .before .before .before .args .at) (lit≤ tt) (c .before .before .before .before .before .before .before .before .before .pre .2))
 
--- src/line.rt:65:9
 weigh-requires : tie.Need-weigh-requires
 weigh-requires c κs = search needs
 
--- src/line.rt:78:14
 nearest-100000-requires : tie.Need-nearest-100000-requires
 nearest-100000-requires c κs = sum-in-reach (c .weigh .result) (c .weigh .ensures .size)
 
--- src/line.rt:78:5
 limit-32-requires : tie.Need-limit-32-requires
 limit-32-requires c κs = search needs
 
--- src/line.rt:61:1
 returns : tie.Need-returns
 returns c =
     let w = c .before .before in

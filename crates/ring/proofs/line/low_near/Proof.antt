@@ -8,13 +8,6 @@ use Rattle.ring.proofs.Taps.{summed, read-new, read-tap, round-too, sum
 use borrow.Author.Needs.{needs}
 use Rattle.ring.proofs.line.low_near.Statement.{statement}
 use Rattle.ring.proofs.line.low_near.Tie as tie
-use Rattle.ring.proofs.line.low_near.Reads as reads
-use Rattle.ring.proofs.line.low_near.Lts as lts
-use Rattle.ring.proofs.line.tap_either.Reads as tap-either-reads
-use Rattle.ring.proofs.line.tap_round.Reads as tap-round-reads
-use Rattle.ring.proofs.low.weigh.Reads as weigh-reads
-use Rattle.whole.proofs.limiting.limit_32.Reads as limit-32-reads
-use Rattle.whole.proofs.rounding.nearest_100000.Reads as nearest-100000-reads
 
 the-sum : (c : tie.After-weigh) → let a = c .before .before .before .before .before .before .before .before .before .before .before .args in c .weigh .result ≡ lineSum published (now (a .line)) (a .size) (a .at) (a .l) (a .x)
 the-sum c =
@@ -45,59 +38,45 @@ the-sum c =
     (read 18 (c10 .tap-round6 .result) (lit≤ tt) (c10 .tap-round6 .ensures) (c10 .tap-round6 .ok))
     (c .weigh .ensures)
 
--- src/line.rt:46:9
 tap-either-requires : tie.Need-tap-either-requires
 tap-either-requires c κs = (c .pre .0, lit≤ tt)
 
--- src/line.rt:47:9
 tap-either-requires-2 : tie.Need-tap-either-requires-2
 tap-either-requires-2 c κs = (c .before .pre .0, lit≤ tt)
 
--- src/line.rt:48:9
 tap-either-requires-3 : tie.Need-tap-either-requires-3
 tap-either-requires-3 c κs = (c .before .before .pre .0, lit≤ tt)
 
--- src/line.rt:49:9
 tap-either-requires-4 : tie.Need-tap-either-requires-4
 tap-either-requires-4 c κs = (c .before .before .before .pre .0, lit≤ tt)
 
--- src/line.rt:50:9
 tap-round-requires : tie.Need-tap-round-requires
 tap-round-requires c κs = (c .before .before .before .before .pre .0, lit≤ tt, round-too 9 9 (c .before .before .before .before .args .l) (c .before .before .before .before .args .at) (lit≤ tt) (c .before .before .before .before .pre .1))
 
--- src/line.rt:51:9
 tap-round-requires-2 : tie.Need-tap-round-requires-2
 tap-round-requires-2 c κs = (c .before .before .before .before .before .pre .0, lit≤ tt, round-too 10 9 (c .before .before .before .before .before .args .l) (c .before .before .before .before .before .args .at) (lit≤ tt) (c .before .before .before .before .before .pre .1))
 
--- src/line.rt:52:9
 tap-round-requires-3 : tie.Need-tap-round-requires-3
 tap-round-requires-3 c κs = (c .before .before .before .before .before .before .pre .0, lit≤ tt, round-too 12 9 (c .before .before .before .before .before .before .args .l) (c .before .before .before .before .before .before .args .at) (lit≤ tt) (c .before .before .before .before .before .before .pre .1))
 
--- src/line.rt:53:9
 tap-round-requires-4 : tie.Need-tap-round-requires-4
 tap-round-requires-4 c κs = (c .before .before .before .before .before .before .before .pre .0, lit≤ tt, round-too 14 9 (c .before .before .before .before .before .before .before .args .l) (c .before .before .before .before .before .before .before .args .at) (lit≤ tt) (c .before .before .before .before .before .before .before .pre .1))
 
--- src/line.rt:54:9
 tap-round-requires-5 : tie.Need-tap-round-requires-5
 tap-round-requires-5 c κs = (c .before .before .before .before .before .before .before .before .pre .0, lit≤ tt, round-too 16 9 (c .before .before .before .before .before .before .before .before .args .l) (c .before .before .before .before .before .before .before .before .args .at) (lit≤ tt) (c .before .before .before .before .before .before .before .before .pre .1))
 
--- src/line.rt:55:9
 tap-round-requires-6 : tie.Need-tap-round-requires-6
 tap-round-requires-6 c κs = (c .before .before .before .before .before .before .before .before .before .pre .0, lit≤ tt, round-too 18 9 (c .before .before .before .before .before .before .before .before .before .args .l) (c .before .before .before .before .before .before .before .before .before .args .at) (lit≤ tt) (c .before .before .before .before .before .before .before .before .before .pre .1))
 
--- src/line.rt:44:9
 weigh-requires : tie.Need-weigh-requires
 weigh-requires c κs = search needs
 
--- src/line.rt:57:14
 nearest-100000-requires : tie.Need-nearest-100000-requires
 nearest-100000-requires c κs = sum-in-reach (c .weigh .result) (c .weigh .ensures .size)
 
--- src/line.rt:57:5
 limit-32-requires : tie.Need-limit-32-requires
 limit-32-requires c κs = search needs
 
--- src/line.rt:40:1
 returns : tie.Need-returns
 returns c =
     let w = c .before .before in

@@ -8,12 +8,6 @@ use Rattle.ring.proofs.Taps.{summed, read-new, read-tap, back-too, sum-
 use borrow.Author.Needs.{needs}
 use Rattle.ring.proofs.line.low_straight.Statement.{statement}
 use Rattle.ring.proofs.line.low_straight.Tie as tie
-use Rattle.ring.proofs.line.low_straight.Reads as reads
-use Rattle.ring.proofs.line.low_straight.Lts as lts
-use Rattle.ring.proofs.line.tap_back.Reads as tap-back-reads
-use Rattle.ring.proofs.low.weigh.Reads as weigh-reads
-use Rattle.whole.proofs.limiting.limit_32.Reads as limit-32-reads
-use Rattle.whole.proofs.rounding.nearest_100000.Reads as nearest-100000-reads
 
 the-sum : (c : tie.After-weigh) → let a = c .before .before .before .before .before .before .before .before .before .before .before .args in c .weigh .result ≡ lineSum published (now (a .line)) (a .size) (a .at) (a .l) (a .x)
 the-sum c =
@@ -44,59 +38,45 @@ the-sum c =
     (read 18 (c10 .tap-back10 .result) (lit≤ tt) (c10 .tap-back10 .ensures) (c10 .tap-back10 .ok))
     (c .weigh .ensures)
 
--- src/line.rt:88:9
 tap-back-requires : tie.Need-tap-back-requires
 tap-back-requires c κs = (c .pre .0, lit≤ tt, back-too 2 18 (c .args .l) (c .args .at) (lit≤ tt) (c .pre .1))
 
--- src/line.rt:89:9
 tap-back-requires-2 : tie.Need-tap-back-requires-2
 tap-back-requires-2 c κs = (c .before .pre .0, lit≤ tt, back-too 4 18 (c .before .args .l) (c .before .args .at) (lit≤ tt) (c .before .pre .1))
 
--- src/line.rt:90:9
 tap-back-requires-3 : tie.Need-tap-back-requires-3
 tap-back-requires-3 c κs = (c .before .before .pre .0, lit≤ tt, back-too 6 18 (c .before .before .args .l) (c .before .before .args .at) (lit≤ tt) (c .before .before .pre .1))
 
--- src/line.rt:91:9
 tap-back-requires-4 : tie.Need-tap-back-requires-4
 tap-back-requires-4 c κs = (c .before .before .before .pre .0, lit≤ tt, back-too 8 18 (c .before .before .before .args .l) (c .before .before .before .args .at) (lit≤ tt) (c .before .before .before .pre .1))
 
--- src/line.rt:92:9
 tap-back-requires-5 : tie.Need-tap-back-requires-5
 tap-back-requires-5 c κs = (c .before .before .before .before .pre .0, lit≤ tt, back-too 9 18 (c .before .before .before .before .args .l) (c .before .before .before .before .args .at) (lit≤ tt) (c .before .before .before .before .pre .1))
 
--- src/line.rt:93:9
 tap-back-requires-6 : tie.Need-tap-back-requires-6
 tap-back-requires-6 c κs = (c .before .before .before .before .before .pre .0, lit≤ tt, back-too 10 18 (c .before .before .before .before .before .args .l) (c .before .before .before .before .before .args .at) (lit≤ tt) (c .before .before .before .before .before .pre .1))
 
--- src/line.rt:94:9
 tap-back-requires-7 : tie.Need-tap-back-requires-7
 tap-back-requires-7 c κs = (c .before .before .before .before .before .before .pre .0, lit≤ tt, back-too 12 18 (c .before .before .before .before .before .before .args .l) (c .before .before .before .before .before .before .args .at) (lit≤ tt) (c .before .before .before .before .before .before .pre .1))
 
--- src/line.rt:95:9
 tap-back-requires-8 : tie.Need-tap-back-requires-8
 tap-back-requires-8 c κs = (c .before .before .before .before .before .before .before .pre .0, lit≤ tt, back-too 14 18 (c .before .before .before .before .before .before .before .args .l) (c .before .before .before .before .before .before .before .args .at) (lit≤ tt) (c .before .before .before .before .before .before .before .pre .1))
 
--- src/line.rt:96:9
 tap-back-requires-9 : tie.Need-tap-back-requires-9
 tap-back-requires-9 c κs = (c .before .before .before .before .before .before .before .before .pre .0, lit≤ tt, back-too 16 18 (c .before .before .before .before .before .before .before .before .args .l) (c .before .before .before .before .before .before .before .before .args .at) (lit≤ tt) (c .before .before .before .before .before .before .before .before .pre .1))
 
--- src/line.rt:97:9
 tap-back-requires-10 : tie.Need-tap-back-requires-10
 tap-back-requires-10 c κs = (c .before .before .before .before .before .before .before .before .before .pre .0, lit≤ tt, back-too 18 18 (c .before .before .before .before .before .before .before .before .before .args .l) (c .before .before .before .before .before .before .before .before .before .args .at) (lit≤ tt) (c .before .before .before .before .before .before .before .before .before .pre .1))
 
--- src/line.rt:86:9
 weigh-requires : tie.Need-weigh-requires
 weigh-requires c κs = search needs
 
--- src/line.rt:99:14
 nearest-100000-requires : tie.Need-nearest-100000-requires
 nearest-100000-requires c κs = sum-in-reach (c .weigh .result) (c .weigh .ensures .size)
 
--- src/line.rt:99:5
 limit-32-requires : tie.Need-limit-32-requires
 limit-32-requires c κs = search needs
 
--- src/line.rt:82:1
 returns : tie.Need-returns
 returns c =
     let w = c .before .before in

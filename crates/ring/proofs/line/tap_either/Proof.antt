@@ -7,44 +7,33 @@ use Rattle.ring.proofs.Taps.{tap-back, tap-round}
 use borrow.Author.Needs.{needs, sfits-of}
 use Rattle.ring.proofs.line.tap_either.Statement.{statement}
 use Rattle.ring.proofs.line.tap_either.Tie as tie
-use Rattle.ring.proofs.line.tap_either.Reads as reads
-use Rattle.ring.proofs.line.tap_either.Lts as lts
 
--- src/line.rt:33:13
 mul-d : tie.Need-mul-d
 mul-d c = omega (arith, mul-le-mul-right (c .args .l) (c .pre .1), c .pre .0 .reach, c .pre .0 .small)
 
--- src/line.rt:35:16
 mul-result : tie.Need-mul-result
 mul-result c = search needs
 
--- src/line.rt:35:16
 shared-slice-copy-out-result : tie.Need-shared-slice-copy-out-result
 shared-slice-copy-out-result c = search needs
 
--- src/line.rt:35:9
 returns : tie.Need-returns
 returns c =
     let s = c .before .before in
     tap-back (now (s .args .line)) (s .args .size) (s .args .at) (s .args .i * s .args .l) (c .before .if1 .taken) (sfits-of (c .result .given))
 
--- src/line.rt:37:10
 add-result : tie.Need-add-result
 add-result c = search needs
 
--- src/line.rt:37:10
 sub-result : tie.Need-sub-result
 sub-result c = omega (arith, mul-le-mul-right (c .before .args .l) (c .before .pre .1), c .before .pre .0 .reach)
 
--- src/line.rt:37:5
 mul-result-2 : tie.Need-mul-result-2
 mul-result-2 c = search needs
 
--- src/line.rt:37:5
 shared-slice-copy-out-result-2 : tie.Need-shared-slice-copy-out-result-2
 shared-slice-copy-out-result-2 c = search needs
 
--- src/line.rt:29:1
 returns-2 : tie.Need-returns-2
 returns-2 c =
     let s = c .before .before in
