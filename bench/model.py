@@ -5,7 +5,8 @@ import shutil
 import subprocess
 import sys
 
-LOOPS = {"oeq": "octave::block::equalise", "plain": "tree_block"}
+SIDES = {"oeq": r"oeq_block|octave::|lines::", "plain": r"tree_block|step"}
+SAMPLES = 2304  # twice round the rings of eight bands
 PROCESSORS = ["skylake", "znver2"]
 MISS = 16  # cycles
 OBJDUMP = shutil.which("x86_64-linux-gnu-objdump") or "objdump"
@@ -27,16 +28,18 @@ def disassembled():
 def traced(side):
     """The addresses that were executed."""
     log = folder + "/trace"
-    subprocess.run(["qemu-x86_64", "-singlestep", "-d", "nochain,exec", "-D", log, program, "8", "2", side], check=True)
+    subprocess.run(["qemu-x86_64", "-singlestep", "-d", "nochain,exec", "-D", log, program, "8", "4096", "2", side], check=True)
     return [int(found[1], 16) for line in open(log) if (found := re.search(r"\[[0-9a-f]+/([0-9a-f]+)/", line))]
 
 
-def samples(trace, side):
-    """Where each sample begins: the first address of the loop that is executed once a sample."""
-    loop = collections.Counter(a for a in trace if function.get(a) == LOOPS[side])
-    once = {a for a, n in loop.items() if 2200 <= n <= 2304}
-    head = next(a for a in trace if a in once)
-    return [i for i, a in enumerate(trace) if a == head]
+def own(trace, side):
+    """What a side executed, without the program around it."""
+    return [a for a in trace if re.match(SIDES[side], function.get(a, ""))]
+
+
+def samples(trace):
+    """Where each sample begins, on the average: by rows no instruction begins a sample."""
+    return [len(trace) * i // SAMPLES for i in range(SAMPLES + 1)]
 
 
 def modelled(address):
@@ -56,12 +59,12 @@ def modelled(address):
 
 
 def cycles(trace, starts, processor):
-    """The mean over runs of four samples, spread over the second time round."""
+    """The mean over runs of 32 samples, as long as a row, spread over the second time round."""
     total = count = 0
-    for i in range(len(starts) // 2, len(starts) - 5, len(starts) // 48):
-        run = ".L0:\n" + "\n".join(modelled(a) for a in trace[starts[i]:starts[i + 4]]) + "\n"
+    for i in range(len(starts) // 2, len(starts) - 33, len(starts) // 24):
+        run = ".L0:\n" + "\n".join(modelled(a) for a in trace[starts[i]:starts[i + 32]]) + "\n"
         out = subprocess.run(["llvm-mca", "-mtriple=x86_64", "-mcpu=" + processor, "-iterations=1"], input=run, capture_output=True, text=True, check=True).stdout
-        total, count = total + int(re.search(r"Total Cycles:\s+(\d+)", out)[1]), count + 4
+        total, count = total + int(re.search(r"Total Cycles:\s+(\d+)", out)[1]), count + 32
     return total / count
 
 
@@ -87,9 +90,9 @@ def jumps(trace, starts):
 
 
 code, function = disassembled()
-for side in LOOPS:
-    trace = traced(side)
-    starts = samples(trace, side)
+for side in SIDES:
+    trace = own(traced(side), side)
+    starts = samples(trace)
     seen, missed = jumps(trace, starts)
     print(f"{side}: {(starts[-1] - starts[0]) / (len(starts) - 1):.0f} instructions a sample, {seen:.0f} conditional jumps, {missed:.1f} missed")
     for processor in PROCESSORS:

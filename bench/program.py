@@ -1,5 +1,6 @@
-"""What the program adds to its block calls: `program.py BLOCK COMMAND..`, BLOCK the nanoseconds that a sample takes in `block` at eight
-bands. Two files of noise, a short and a long one: the start of the program falls out of the difference."""
+"""What the program adds to its block calls: `program.py BLOCK COMMAND..`, BLOCK the program of bench/block.c, which is timed in turn with it at
+eight bands, since a machine is not as fast at all times. Two files of noise, a short and a long one: the start of the program falls out of the
+difference. Words before the program's name, an emulator's, stand before both."""
 import os
 import resource
 import statistics
@@ -30,7 +31,18 @@ def seconds(command, file):
     return after.ru_utime - before.ru_utime + after.ru_stime - before.ru_stime
 
 
-block, command = float(sys.argv[1]), sys.argv[2:] + "0 1 2 3 4 5 6 7".split()
+def block():
+    """Nanoseconds that a sample takes in `block`."""
+    return float(subprocess.run(sys.argv[2:-1] + [sys.argv[1], "8", "4096", "9"], check=True, capture_output=True, text=True).stdout.split()[0])
+
+
+command = sys.argv[2:] + "0 1 2 3 4 5 6 7".split()
 short, long = noise(SHORT), noise(LONG)
-whole = 1e9 * statistics.median(seconds(command, long) - seconds(command, short) for _ in range(TURNS)) / (LONG - SHORT)
-print(f"eqwave: {whole:.1f} ns a sample, of them {whole - block:.1f} its own: {(whole - block) / block:.2f} of block's")
+turns = []
+for _ in range(TURNS):
+    before = block()
+    whole = 1e9 * (seconds(command, long) - seconds(command, short)) / (LONG - SHORT)
+    turns.append((whole, (before + block()) / 2))
+own = statistics.median(whole / blocks for whole, blocks in turns) - 1
+whole, blocks = (statistics.median(column) for column in zip(*turns))
+print(f"eqwave: {whole:.1f} ns a sample, its block calls {blocks:.1f}: its own part is {own:.2f} of theirs")

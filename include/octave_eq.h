@@ -2,8 +2,8 @@
  * octave_eq.h: the proved octave equaliser, its gain commands, the WAVE header and the sample codec, for C.
  *
  * Link with libcapi.a (x86-64 Linux), which needs nothing but memset. No call allocates, keeps a state of its own or
- * calls back, and each comes back, whatever it is handed. Calls on different places may run at the same time. At ten
- * bands oeq_block takes about 2 KiB of stack.
+ * calls back, and each comes back, whatever it is handed. Calls on different places may run at the same time. oeq_block
+ * takes about 2 KiB of stack at two bands and 4.5 KiB at ten, measured; the other calls take less.
  *
  * NUMBERS
  *   sample   int32_t, -8,388,608 to 8,388,607: 24 bits, full scale at both ends.
