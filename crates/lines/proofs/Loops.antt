@@ -55,69 +55,71 @@ module _ (p : Prototype) (size at L from to : ℕ) (lines₀ m₀ : List ℤ) wh
   pub going-starts : from ≤ to → Going lines₀ m₀ from
   going-starts h = record { started = omega arith; reached = h; same-lines = refl; same-matrix = refl; unread = refl; rest = refl }
 
-  module _ (q : Part p lines₀ size at L from to m₀) (lines m : List ℤ) (i : ℕ) (g : Going lines m i) where
-    -- the position of a sample of the part lies in its line
-    pub going-within : i < to → Within p lines size (at + i) L
-    going-within h =
-        record { inside = omega (arith, q .before-end); reach = q .reach; some = q .some; held = omega (arith, q .held, g .same-lines); small = q .small }
+module _ {p : Prototype} {size at L from to : ℕ} {lines₀ m₀ lines m : List ℤ} {i : ℕ} (q : Part p lines₀ size at L from to m₀) (g : Going p size at L from to lines₀ m₀ lines m i) where
+  -- the position of a sample of the part lies in its line
+  pub going-within : i < to → Within p lines size (at + i) L
+  going-within h =
+      record { inside = omega (arith, q .before-end); reach = q .reach; some = q .some; held = omega (arith, q .held, g .same-lines); small = q .small }
 
-    -- its low sample has a place in the second row
-    pub going-second : (z : ℤ) → i < to → rowPlaces + i < length (set m i z)
-    going-second z h = rw (length-set m i z) (omega (arith, q .room, q .short, g .same-matrix))
+  -- its low sample has a place in the second row
+  pub going-second : (z : ℤ) → i < to → rowPlaces + i < length (set m i z)
+  going-second z h = rw (length-set m i z) (omega (arith, q .room, q .short, g .same-matrix))
 
-    -- its value has not been written over
-    same-sample : i < to → getD m i (pos 0) ≡ getD (row m₀) i (pos 0)
-    same-sample h =
-        let here : i + 0 ≡ i = omega arith in
-        let at-start : (l : List ℤ) → getD (drop i l) 0 (pos 0) ≡ getD l i (pos 0) = λ l. getD-drop i l 0 (pos 0) ∙ ap (λ (k : ℕ). getD l k (pos 0)) here in
-        sym (getD-take rowPlaces m i (pos 0) (omega (arith, q .short))) ∙ sym (at-start (row m)) ∙ ap (λ (l : List ℤ). getD l 0 (pos 0)) (g .unread) ∙ at-start (row m₀)
+  -- its value has not been written over
+  same-sample : i < to → getD m i (pos 0) ≡ getD (row m₀) i (pos 0)
+  same-sample h =
+      let here : i + 0 ≡ i = omega arith in
+      let at-start : (l : List ℤ) → getD (drop i l) 0 (pos 0) ≡ getD l i (pos 0) = λ l. getD-drop i l 0 (pos 0) ∙ ap (λ (k : ℕ). getD l k (pos 0)) here in
+      sym (getD-take rowPlaces m i (pos 0) (omega (arith, q .short))) ∙ sym (at-start (row m)) ∙ ap (λ (l : List ℤ). getD l 0 (pos 0)) (g .unread) ∙ at-start (row m₀)
 
-    pub going-on : (y z : ℤ) → i < to → SFits w32 (getD m i (pos 0)) → SFits w32 y → SFits w32 z →
-        y ≡ lowValue p lines size (at + i) L (raw w32 (getD m i (pos 0))) → z ≡ lateValue p lines size (at + i) L →
-        Going (set lines (at + i) (raw w32 (getD m i (pos 0)))) (set (set m i (raw w32 z)) (rowPlaces + i) (raw w32 y)) (i + 1)
-    unfolding line
-    going-on y z h fx fy fz ey ez =
-        let v = getD (row m₀) i (pos 0) in
-        let x-is : raw w32 (getD m i (pos 0)) ≡ v = toZ-ofZ fx ∙ same-sample h in
-        let y-is : raw w32 y ≡ lowValue p lines size (at + i) L v = toZ-ofZ fy ∙ ey ∙ ap (lowValue p lines size (at + i) L) x-is in
-        let z-is : raw w32 z ≡ lateValue p lines size (at + i) L = toZ-ofZ fz ∙ ez in
-        let few : i < rowPlaces = omega (arith, q .short) in
-        let row-long : length (row m) ≡ rowPlaces = length-take-le rowPlaces m (omega (arith, q .room, g .same-matrix)) in
-        let row₀-long : length (row m₀) ≡ rowPlaces = length-take-le rowPlaces m₀ (omega (arith, q .room)) in
-        let below-long : i < length (below m) = rw (length-drop rowPlaces m) (omega (arith, q .room, g .same-matrix)) in
-        let next-from : (l : List ℤ) → drop (i + 1) l ≡ drop 1 (drop i l) = λ l. sym (drop-drop 1 i l) in
-        rw (x-is, y-is, z-is)
-        (record {
-          started = omega (arith, g .started);
-          reached = omega arith;
-          same-lines = length-set lines (at + i) v ∙ g .same-lines;
-          same-matrix = length-set (set m i (lateValue p lines size (at + i) L)) (rowPlaces + i) (lowValue p lines size (at + i) L v) ∙ length-set m i (lateValue p lines size (at + i) L) ∙ g .same-matrix;
-          unread =
-              ap (drop (i + 1)) (row-stored m i (lowValue p lines size (at + i) L v) (lateValue p lines size (at + i) L) few) ∙
-              drop-set-lt (i + 1) (row m) i (lateValue p lines size (at + i) L) (omega arith) ∙
-              next-from (row m) ∙ ap (drop 1) (g .unread) ∙ sym (next-from (row m₀));
-          rest =
-              rw (
-                one-on at i,
-                add-one i,
-                row-stored m i (lowValue p lines size (at + i) L v) (lateValue p lines size (at + i) L) few,
-                below-stored m i (lowValue p lines size (at + i) L v) (lateValue p lines size (at + i) L) few,
-                take-suc-set (row m) i (lateValue p lines size (at + i) L) (omega (arith, row-long)),
-                take-suc-set (below m) i (lowValue p lines size (at + i) L v) below-long,
-                append-snoc (take i (row m)) (lateValue p lines size (at + i) L),
-                append-snoc (take i (below m)) (lowValue p lines size (at + i) L v),
-              )
-              (rw (slice-cons i to (row m₀) (pos 0) h (omega (arith, row₀-long, q .short))) at (g .rest));
-        })
+  pub going-on : (y z : ℤ) → i < to → SFits w32 (getD m i (pos 0)) → SFits w32 y → SFits w32 z →
+      y ≡ lowValue p lines size (at + i) L (raw w32 (getD m i (pos 0))) → z ≡ lateValue p lines size (at + i) L →
+      Going p size at L from to lines₀ m₀ (set lines (at + i) (raw w32 (getD m i (pos 0)))) (set (set m i (raw w32 z)) (rowPlaces + i) (raw w32 y)) (i + 1)
+  unfolding line
+  going-on y z h fx fy fz ey ez =
+      let v = getD (row m₀) i (pos 0) in
+      let x-is : raw w32 (getD m i (pos 0)) ≡ v = toZ-ofZ fx ∙ same-sample h in
+      let y-is : raw w32 y ≡ lowValue p lines size (at + i) L v = toZ-ofZ fy ∙ ey ∙ ap (lowValue p lines size (at + i) L) x-is in
+      let z-is : raw w32 z ≡ lateValue p lines size (at + i) L = toZ-ofZ fz ∙ ez in
+      let few : i < rowPlaces = omega (arith, q .short) in
+      let row-long : length (row m) ≡ rowPlaces = length-take-le rowPlaces m (omega (arith, q .room, g .same-matrix)) in
+      let row₀-long : length (row m₀) ≡ rowPlaces = length-take-le rowPlaces m₀ (omega (arith, q .room)) in
+      let below-long : i < length (below m) = rw (length-drop rowPlaces m) (omega (arith, q .room, g .same-matrix)) in
+      let next-from : (l : List ℤ) → drop (i + 1) l ≡ drop 1 (drop i l) = λ l. sym (drop-drop 1 i l) in
+      let low = lowValue p lines size (at + i) L v in
+      let late = lateValue p lines size (at + i) L in
+      rw (x-is, y-is, z-is)
+      (record {
+        started = omega (arith, g .started);
+        reached = omega arith;
+        same-lines = length-set lines (at + i) v ∙ g .same-lines;
+        same-matrix = length-set (set m i late) (rowPlaces + i) low ∙ length-set m i late ∙ g .same-matrix;
+        unread =
+            ap (drop (i + 1)) (row-stored m i low late few) ∙
+            drop-set-lt (i + 1) (row m) i late (omega arith) ∙
+            next-from (row m) ∙ ap (drop 1) (g .unread) ∙ sym (next-from (row m₀));
+        rest =
+            rw (
+              one-on at i,
+              add-one i,
+              row-stored m i low late few,
+              below-stored m i low late few,
+              take-suc-set (row m) i late (omega (arith, row-long)),
+              take-suc-set (below m) i low below-long,
+              append-snoc (take i (row m)) late,
+              append-snoc (take i (below m)) low,
+            )
+            (rw (slice-cons i to (row m₀) (pos 0) h (omega (arith, row₀-long, q .short))) at (g .rest));
+      })
 
-    pub going-ends : to ≤ i → LineDone (line p size L (at + from) lines₀ (slice from to (row m₀))) from to m₀ lines m
-    unfolding line
-    going-ends h =
-        let end : i ≡ to = omega (arith, g .reached) in
-        let r = rw (end, slice-empty to (row m₀), append-nil (take to (row m)), append-nil (take to (below m))) at (g .rest) in
-        record {
-          places-are = ap (λ (u : List ℤ × List ℤ × List ℤ). u .0) r;
-          late-is = ap (λ (u : List ℤ × List ℤ × List ℤ). u .1) r;
-          low-is = ap (λ (u : List ℤ × List ℤ × List ℤ). u .2) r;
-          unread = rw end at (g .unread);
-        }
+  pub going-ends : to ≤ i → LineDone (line p size L (at + from) lines₀ (slice from to (row m₀))) from to m₀ lines m
+  unfolding line
+  going-ends h =
+      let end : i ≡ to = omega (arith, g .reached) in
+      let r = rw (end, slice-empty to (row m₀), append-nil (take to (row m)), append-nil (take to (below m))) at (g .rest) in
+      record {
+        places-are = ap (λ (u : List ℤ × List ℤ × List ℤ). u .0) r;
+        late-is = ap (λ (u : List ℤ × List ℤ × List ℤ). u .1) r;
+        low-is = ap (λ (u : List ℤ × List ℤ × List ℤ). u .2) r;
+        unread = rw end at (g .unread);
+      }

@@ -38,35 +38,14 @@ cascade-returns t c =
     let a = c .before .args in
     one-band published (a .size) (a .at) (a .l) (a .n) (now (a .lines)) (now (a .rows)) (a .bands) (c .if1 .taken)
 
-cascade-line-over-requires : (t : ℕ) → cascade-lts.Need-line-over-requires (calls t) (cascade-at t) cascade.Post
-cascade-line-over-requires t c κs = first-row t (c .before .before .before) (c .before .before .if1 .left)
-
-cascade-mul-cascade : (t : ℕ) → cascade-lts.Need-mul-cascade (calls t) (cascade-at t) cascade.Post
-cascade-mul-cascade t c = search needs
-
 cascade-sub-cascade : (t : ℕ) → cascade-lts.Need-sub-cascade (calls t) (cascade-at t) cascade.Post
 cascade-sub-cascade t c = omega (arith, first-row t (c .before .before .before .before .before .before) (c .before .before .before .before .before .if1 .left) .held, c .before .before .line-over .kept .0)
 
 cascade-part-cascade-start : (t : ℕ) → cascade-lts.Need-part-cascade-start (calls t) (cascade-at t) cascade.Post
 cascade-part-cascade-start t c = omega (arith, first-row t (c .before .before .before .before .before .before) (c .before .before .before .before .before .if1 .left) .held, c .before .before .line-over .kept .0)
 
-cascade-part-cascade-end : (t : ℕ) → cascade-lts.Need-part-cascade-end (calls t) (cascade-at t) cascade.Post
-cascade-part-cascade-end t c = search needs
-
 cascade-mul-cascade-2 : (t : ℕ) → cascade-lts.Need-mul-cascade-2 (calls t) (cascade-at t) cascade.Post
 cascade-mul-cascade-2 t c = omega (arith, first-row t (c .before .before .before .before .before .before .before) (c .before .before .before .before .before .before .if1 .left) .reach, first-row t (c .before .before .before .before .before .before .before) (c .before .before .before .before .before .before .if1 .left) .small)
-
-cascade-sub-cascade-2 : (t : ℕ) → cascade-lts.Need-sub-cascade-2 (calls t) (cascade-at t) cascade.Post
-cascade-sub-cascade-2 t c = search needs
-
-cascade-sub-cascade-3 : (t : ℕ) → cascade-lts.Need-sub-cascade-3 (calls t) (cascade-at t) cascade.Post
-cascade-sub-cascade-3 t c = search needs
-
-cascade-part-cascade-start-2 : (t : ℕ) → cascade-lts.Need-part-cascade-start-2 (calls t) (cascade-at t) cascade.Post
-cascade-part-cascade-start-2 t c = search needs
-
-cascade-part-cascade-end-2 : (t : ℕ) → cascade-lts.Need-part-cascade-end-2 (calls t) (cascade-at t) cascade.Post
-cascade-part-cascade-end-2 t c = search needs
 
 cascade-cascade-requires : (t : ℕ) → cascade-lts.Need-cascade-requires (calls t) (cascade-at t) cascade.Post
 cascade-cascade-requires t c κs =
@@ -76,12 +55,6 @@ cascade-cascade-requires t c κs =
       omega (arith, s .pre .0, s .pre .1 .region .some),
       region-below published (a .size) (a .at) (a .l) (a .n) (now (a .lines)) (now (a .rows)) (a .bands) (over .last .0) (over .last .1 .1 .1 .1 .1 .0) (c .before .before .before .before .before .before .before .if1 .left) (s .pre .1) (over .kept .0) (over .kept .1 .1 .1 .1 .1 .0),
     )
-
-cascade-same-length : (t : ℕ) → cascade-lts.Need-same-length (calls t) (cascade-at t) cascade.Post
-cascade-same-length t c = search needs
-
-cascade-same-length-2 : (t : ℕ) → cascade-lts.Need-same-length-2 (calls t) (cascade-at t) cascade.Post
-cascade-same-length-2 t c = search needs
 
 cascade-returns-2 : (t : ℕ) → cascade-lts.Need-returns-2 (calls t) (cascade-at t) cascade.Post
 cascade-returns-2 t c =
@@ -97,17 +70,17 @@ pub +cascade-spec : {M : Type 1} → statement M
     (cascade-at t)
     cascade.Post
     (cascade-returns t)
-    (cascade-line-over-requires t)
-    (cascade-mul-cascade t)
+    (λ c κs. first-row t (c .before .before .before) (c .before .before .if1 .left))
+    (λ c. search needs)
     (cascade-sub-cascade t)
     (cascade-part-cascade-start t)
-    (cascade-part-cascade-end t)
+    (λ c. search needs)
     (cascade-mul-cascade-2 t)
-    (cascade-sub-cascade-2 t)
-    (cascade-sub-cascade-3 t)
-    (cascade-part-cascade-start-2 t)
-    (cascade-part-cascade-end-2 t)
+    (λ c. search needs)
+    (λ c. search needs)
+    (λ c. search needs)
+    (λ c. search needs)
     (cascade-cascade-requires t)
-    (cascade-same-length t)
-    (cascade-same-length-2 t)
+    (λ c. search needs)
+    (λ c. search needs)
     (cascade-returns-2 t)

@@ -17,18 +17,6 @@ the-cuts c =
     let a = s .args in
     cuts (a .size) (a .at) (a .l) (a .n) (c .before .up-to .result) (c .up-to2 .result) (s .pre .before-end) (c .before .up-to .ensures) (c .up-to2 .ensures)
 
-mul-up-to : tie.Need-mul-up-to
-mul-up-to c = search needs
-
-up-to-requires : tie.Need-up-to-requires
-up-to-requires c κs = search needs
-
-mul-up-to-2 : tie.Need-mul-up-to-2
-mul-up-to-2 c = search needs
-
-up-to-requires-2 : tie.Need-up-to-requires-2
-up-to-requires-2 c κs = search needs
-
 near-requires : tie.Need-near-requires
 near-requires c κs =
     let c2 = c .before .before in
@@ -65,12 +53,6 @@ straight-requires c κs =
       k .straight,
     )
 
-same-length : tie.Need-same-length
-same-length c = search needs
-
-same-length-2 : tie.Need-same-length-2
-same-length-2 c = search needs
-
 returns : tie.Need-returns
 returns c =
     let c2 = c .before .before .before .before .before .before .before .before .before .before .before .before .before .before .before in
@@ -97,13 +79,13 @@ pub line-over-spec : {M : Type 1} → statement M
 line-over-spec =
     tie.close
     (tie.spec
-    mul-up-to
-    up-to-requires
-    mul-up-to-2
-    up-to-requires-2
+    (λ c. search needs)
+    (λ c κs. search needs)
+    (λ c. search needs)
+    (λ c κs. search needs)
     near-requires
     far-requires
     straight-requires
-    same-length
-    same-length-2
+    (λ c. search needs)
+    (λ c. search needs)
     returns)

@@ -7,9 +7,6 @@ use borrow.Author.Needs.{needs}
 use Rattle.octave.proofs.run.answer_row.Statement.{statement}
 use Rattle.octave.proofs.run.answer_row.Tie as tie
 
-put-requires : tie.Need-put-requires
-put-requires c κs = let row = c .before .pre .0 in omega (arith, row .short, row .room, row .region .some)
-
 cascade-requires : tie.Need-cascade-requires
 cascade-requires c κs =
     let put = c .before .before .before .put in
@@ -23,15 +20,6 @@ weigh-rows-requires c κs =
     let s = c .before .before .before .before .before .before .before .before .before .before in
     let row = s .pre .0 in
     (row .region .some, row .region .few, omega (arith, s .pre .2, row .short), omega (arith, row .room, put .kept .1 .0, cascade .kept .1 .1 .1 .1 .1 .1 .0), s .pre .1)
-
-same-length : tie.Need-same-length
-same-length c = search needs
-
-same-length-2 : tie.Need-same-length-2
-same-length-2 c = search needs
-
-same-length-3 : tie.Need-same-length-3
-same-length-3 c = search needs
 
 returns : tie.Need-returns
 returns c =
@@ -47,10 +35,10 @@ pub answer-row-spec : {M : Type 1} → statement M
 answer-row-spec =
     tie.close
     (tie.spec
-    put-requires
+    (λ c κs. let row = c .before .pre .0 in omega (arith, row .short, row .room, row .region .some))
     cascade-requires
     weigh-rows-requires
-    same-length
-    same-length-2
-    same-length-3
+    (λ c. search needs)
+    (λ c. search needs)
+    (λ c. search needs)
     returns)

@@ -13,35 +13,11 @@ Inv-loop input rows₀ i₀ rows i = Putting input rows₀ rows i
 abbrev μ-loop : tie.MeasureT-loop
 μ-loop input rows₀ i₀ rows i = length input - i
 
-loop-holds : tie.Need-loop-holds Inv-loop μ-loop
-loop-holds c = putting-starts (now (c .args .input)) (now (c .args .rows))
-
-mul-rows : tie.Need-mul-rows Inv-loop μ-loop
-mul-rows c = search needs
-
-shared-slice-copy-out-rows : tie.Need-shared-slice-copy-out-rows Inv-loop μ-loop
-shared-slice-copy-out-rows c = search needs
-
-mul-t8 : tie.Need-mul-t8 Inv-loop μ-loop
-mul-t8 c = search needs
-
-slice-set-from-rows : tie.Need-slice-set-from-rows Inv-loop μ-loop
-slice-set-from-rows c = search needs
-
-add-i : tie.Need-add-i Inv-loop μ-loop
-add-i c = search needs
-
-loop-less : tie.Need-loop-less Inv-loop μ-loop
-loop-less c = search needs
-
 loop-again : tie.Need-loop-again Inv-loop μ-loop
 loop-again c =
     let s = c .before .before .before in
     let g = c .before .before .loop in
     putting-on (now (s .args .input)) (now (s .args .rows)) (g .rows) (g .i) (g .inv) (c .before .loop-test .taken) (s .pre) (sfits-of (c .rows .given))
-
-same-length : tie.Need-same-length Inv-loop μ-loop
-same-length c = search needs
 
 returns : tie.Need-returns Inv-loop μ-loop
 returns c = putting-ends (now (c .before .before .args .input)) (now (c .before .before .args .rows)) (c .before .loop .rows) (c .before .loop .i) (c .before .loop .inv) (c .loop-test .left)
@@ -52,13 +28,13 @@ put-spec =
     (tie.spec
     Inv-loop
     μ-loop
-    loop-holds
-    mul-rows
-    shared-slice-copy-out-rows
-    mul-t8
-    slice-set-from-rows
-    add-i
-    loop-less
+    (λ c. putting-starts (now (c .args .input)) (now (c .args .rows)))
+    (λ c. search needs)
+    (λ c. search needs)
+    (λ c. search needs)
+    (λ c. search needs)
+    (λ c. search needs)
+    (λ c. search needs)
     loop-again
-    same-length
+    (λ c. search needs)
     returns)

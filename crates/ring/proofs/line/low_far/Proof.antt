@@ -38,12 +38,6 @@ the-sum c =
     (read 18 (c10 .tap-round .result) (lit≤ tt) (c10 .tap-round .ensures) (c10 .tap-round .ok))
     (c .weigh .ensures)
 
-tap-back-requires : tie.Need-tap-back-requires
-tap-back-requires c κs = (c .pre .0, lit≤ tt, back-too 2 9 (c .args .l) (c .args .at) (lit≤ tt) (c .pre .1))
-
-tap-back-requires-2 : tie.Need-tap-back-requires-2
-tap-back-requires-2 c κs = (c .before .pre .0, lit≤ tt, back-too 4 9 (c .before .args .l) (c .before .args .at) (lit≤ tt) (c .before .pre .1))
-
 tap-back-requires-3 : tie.Need-tap-back-requires-3
 tap-back-requires-3 c κs = (c .before .before .pre .0, lit≤ tt, back-too 6 9 (c .before .before .args .l) (c .before .before .args .at) (lit≤ tt) (c .before .before .pre .1))
 
@@ -53,29 +47,8 @@ tap-back-requires-4 c κs = (c .before .before .before .pre .0, lit≤ tt, back-
 tap-back-requires-5 : tie.Need-tap-back-requires-5
 tap-back-requires-5 c κs = (c .before .before .before .before .pre .0, lit≤ tt, back-too 9 9 (c .before .before .before .before .args .l) (c .before .before .before .before .args .at) (lit≤ tt) (c .before .before .before .before .pre .1))
 
-tap-either-requires : tie.Need-tap-either-requires
-tap-either-requires c κs = (c .before .before .before .before .before .pre .0, lit≤ tt)
-
-tap-either-requires-2 : tie.Need-tap-either-requires-2
-tap-either-requires-2 c κs = (c .before .before .before .before .before .before .pre .0, lit≤ tt)
-
-tap-either-requires-3 : tie.Need-tap-either-requires-3
-tap-either-requires-3 c κs = (c .before .before .before .before .before .before .before .pre .0, lit≤ tt)
-
-tap-either-requires-4 : tie.Need-tap-either-requires-4
-tap-either-requires-4 c κs = (c .before .before .before .before .before .before .before .before .pre .0, lit≤ tt)
-
 tap-round-requires : tie.Need-tap-round-requires
 tap-round-requires c κs = (c .before .before .before .before .before .before .before .before .before .pre .0, lit≤ tt, round-too 18 18 (c .before .before .before .before .before .before .before .before .before .args .l) (c .before .before .before .before .before .before .before .before .before .args .at) (lit≤ tt) (c .before .before .before .before .before .before .before .before .before .pre .2))
-
-weigh-requires : tie.Need-weigh-requires
-weigh-requires c κs = search needs
-
-nearest-100000-requires : tie.Need-nearest-100000-requires
-nearest-100000-requires c κs = sum-in-reach (c .weigh .result) (c .weigh .ensures .size)
-
-limit-32-requires : tie.Need-limit-32-requires
-limit-32-requires c κs = search needs
 
 returns : tie.Need-returns
 returns c =
@@ -88,17 +61,17 @@ pub low-far-spec : {M : Type 1} → statement M
 low-far-spec =
     tie.close
     (tie.spec
-    tap-back-requires
-    tap-back-requires-2
+    (λ c κs. (c .pre .0, lit≤ tt, back-too 2 9 (c .args .l) (c .args .at) (lit≤ tt) (c .pre .1)))
+    (λ c κs. (c .before .pre .0, lit≤ tt, back-too 4 9 (c .before .args .l) (c .before .args .at) (lit≤ tt) (c .before .pre .1)))
     tap-back-requires-3
     tap-back-requires-4
     tap-back-requires-5
-    tap-either-requires
-    tap-either-requires-2
-    tap-either-requires-3
-    tap-either-requires-4
+    (λ c κs. (c .before .before .before .before .before .pre .0, lit≤ tt))
+    (λ c κs. (c .before .before .before .before .before .before .pre .0, lit≤ tt))
+    (λ c κs. (c .before .before .before .before .before .before .before .pre .0, lit≤ tt))
+    (λ c κs. (c .before .before .before .before .before .before .before .before .pre .0, lit≤ tt))
     tap-round-requires
-    weigh-requires
-    nearest-100000-requires
-    limit-32-requires
+    (λ c κs. search needs)
+    (λ c κs. sum-in-reach (c .weigh .result) (c .weigh .ensures .size))
+    (λ c κs. search needs)
     returns)

@@ -38,18 +38,6 @@ the-sum c =
     (read 18 (c10 .tap-round6 .result) (lit≤ tt) (c10 .tap-round6 .ensures) (c10 .tap-round6 .ok))
     (c .weigh .ensures)
 
-tap-either-requires : tie.Need-tap-either-requires
-tap-either-requires c κs = (c .pre .0, lit≤ tt)
-
-tap-either-requires-2 : tie.Need-tap-either-requires-2
-tap-either-requires-2 c κs = (c .before .pre .0, lit≤ tt)
-
-tap-either-requires-3 : tie.Need-tap-either-requires-3
-tap-either-requires-3 c κs = (c .before .before .pre .0, lit≤ tt)
-
-tap-either-requires-4 : tie.Need-tap-either-requires-4
-tap-either-requires-4 c κs = (c .before .before .before .pre .0, lit≤ tt)
-
 tap-round-requires : tie.Need-tap-round-requires
 tap-round-requires c κs = (c .before .before .before .before .pre .0, lit≤ tt, round-too 9 9 (c .before .before .before .before .args .l) (c .before .before .before .before .args .at) (lit≤ tt) (c .before .before .before .before .pre .1))
 
@@ -68,15 +56,6 @@ tap-round-requires-5 c κs = (c .before .before .before .before .before .before 
 tap-round-requires-6 : tie.Need-tap-round-requires-6
 tap-round-requires-6 c κs = (c .before .before .before .before .before .before .before .before .before .pre .0, lit≤ tt, round-too 18 9 (c .before .before .before .before .before .before .before .before .before .args .l) (c .before .before .before .before .before .before .before .before .before .args .at) (lit≤ tt) (c .before .before .before .before .before .before .before .before .before .pre .1))
 
-weigh-requires : tie.Need-weigh-requires
-weigh-requires c κs = search needs
-
-nearest-100000-requires : tie.Need-nearest-100000-requires
-nearest-100000-requires c κs = sum-in-reach (c .weigh .result) (c .weigh .ensures .size)
-
-limit-32-requires : tie.Need-limit-32-requires
-limit-32-requires c κs = search needs
-
 returns : tie.Need-returns
 returns c =
     let w = c .before .before in
@@ -88,17 +67,17 @@ pub low-near-spec : {M : Type 1} → statement M
 low-near-spec =
     tie.close
     (tie.spec
-    tap-either-requires
-    tap-either-requires-2
-    tap-either-requires-3
-    tap-either-requires-4
+    (λ c κs. (c .pre .0, lit≤ tt))
+    (λ c κs. (c .before .pre .0, lit≤ tt))
+    (λ c κs. (c .before .before .pre .0, lit≤ tt))
+    (λ c κs. (c .before .before .before .pre .0, lit≤ tt))
     tap-round-requires
     tap-round-requires-2
     tap-round-requires-3
     tap-round-requires-4
     tap-round-requires-5
     tap-round-requires-6
-    weigh-requires
-    nearest-100000-requires
-    limit-32-requires
+    (λ c κs. search needs)
+    (λ c κs. sum-in-reach (c .weigh .result) (c .weigh .ensures .size))
+    (λ c κs. search needs)
     returns)

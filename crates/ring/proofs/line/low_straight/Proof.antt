@@ -38,12 +38,6 @@ the-sum c =
     (read 18 (c10 .tap-back10 .result) (lit≤ tt) (c10 .tap-back10 .ensures) (c10 .tap-back10 .ok))
     (c .weigh .ensures)
 
-tap-back-requires : tie.Need-tap-back-requires
-tap-back-requires c κs = (c .pre .0, lit≤ tt, back-too 2 18 (c .args .l) (c .args .at) (lit≤ tt) (c .pre .1))
-
-tap-back-requires-2 : tie.Need-tap-back-requires-2
-tap-back-requires-2 c κs = (c .before .pre .0, lit≤ tt, back-too 4 18 (c .before .args .l) (c .before .args .at) (lit≤ tt) (c .before .pre .1))
-
 tap-back-requires-3 : tie.Need-tap-back-requires-3
 tap-back-requires-3 c κs = (c .before .before .pre .0, lit≤ tt, back-too 6 18 (c .before .before .args .l) (c .before .before .args .at) (lit≤ tt) (c .before .before .pre .1))
 
@@ -68,15 +62,6 @@ tap-back-requires-9 c κs = (c .before .before .before .before .before .before .
 tap-back-requires-10 : tie.Need-tap-back-requires-10
 tap-back-requires-10 c κs = (c .before .before .before .before .before .before .before .before .before .pre .0, lit≤ tt, back-too 18 18 (c .before .before .before .before .before .before .before .before .before .args .l) (c .before .before .before .before .before .before .before .before .before .args .at) (lit≤ tt) (c .before .before .before .before .before .before .before .before .before .pre .1))
 
-weigh-requires : tie.Need-weigh-requires
-weigh-requires c κs = search needs
-
-nearest-100000-requires : tie.Need-nearest-100000-requires
-nearest-100000-requires c κs = sum-in-reach (c .weigh .result) (c .weigh .ensures .size)
-
-limit-32-requires : tie.Need-limit-32-requires
-limit-32-requires c κs = search needs
-
 returns : tie.Need-returns
 returns c =
     let w = c .before .before in
@@ -88,8 +73,8 @@ pub low-straight-spec : {M : Type 1} → statement M
 low-straight-spec =
     tie.close
     (tie.spec
-    tap-back-requires
-    tap-back-requires-2
+    (λ c κs. (c .pre .0, lit≤ tt, back-too 2 18 (c .args .l) (c .args .at) (lit≤ tt) (c .pre .1)))
+    (λ c κs. (c .before .pre .0, lit≤ tt, back-too 4 18 (c .before .args .l) (c .before .args .at) (lit≤ tt) (c .before .pre .1)))
     tap-back-requires-3
     tap-back-requires-4
     tap-back-requires-5
@@ -98,7 +83,7 @@ low-straight-spec =
     tap-back-requires-8
     tap-back-requires-9
     tap-back-requires-10
-    weigh-requires
-    nearest-100000-requires
-    limit-32-requires
+    (λ c κs. search needs)
+    (λ c κs. sum-in-reach (c .weigh .result) (c .weigh .ensures .size))
+    (λ c κs. search needs)
     returns)

@@ -6,18 +6,6 @@ use borrow.Author.Needs.{needs, sfits-of}
 use Rattle.ring.proofs.line.tap_back.Statement.{statement}
 use Rattle.ring.proofs.line.tap_back.Tie as tie
 
-mul-result : tie.Need-mul-result
-mul-result c = search needs
-
-sub-result : tie.Need-sub-result
-sub-result c = search needs
-
-mul-result-2 : tie.Need-mul-result-2
-mul-result-2 c = search needs
-
-shared-slice-copy-out-result : tie.Need-shared-slice-copy-out-result
-shared-slice-copy-out-result c = search needs
-
 returns : tie.Need-returns
 returns c =
     let s = c .before in
@@ -25,4 +13,4 @@ returns c =
 
 pub tap-back-spec : {M : Type 1} → statement M
 tap-back-spec =
-    tie.close (tie.spec mul-result sub-result mul-result-2 shared-slice-copy-out-result returns)
+    tie.close (tie.spec (λ c. search needs) (λ c. search needs) (λ c. search needs) (λ c. search needs) returns)

@@ -8,21 +8,6 @@ use borrow.Author.Needs.{needs, sfits-of}
 use Rattle.ring.proofs.line.tap_round.Statement.{statement}
 use Rattle.ring.proofs.line.tap_round.Tie as tie
 
-add-result : tie.Need-add-result
-add-result c = search needs
-
-mul-result : tie.Need-mul-result
-mul-result c = omega (arith, mul-le-mul-right (c .args .l) (c .pre .1), c .pre .0 .reach, c .pre .0 .small)
-
-sub-result : tie.Need-sub-result
-sub-result c = omega (arith, mul-le-mul-right (c .args .l) (c .pre .1), c .pre .0 .reach)
-
-mul-result-2 : tie.Need-mul-result-2
-mul-result-2 c = search needs
-
-shared-slice-copy-out-result : tie.Need-shared-slice-copy-out-result
-shared-slice-copy-out-result c = search needs
-
 returns : tie.Need-returns
 returns c =
     let s = c .before in
@@ -31,4 +16,4 @@ returns c =
 pub tap-round-spec : {M : Type 1} → statement M
 tap-round-spec =
     tie.close
-    (tie.spec add-result mul-result sub-result mul-result-2 shared-slice-copy-out-result returns)
+    (tie.spec (λ c. search needs) (λ c. omega (arith, mul-le-mul-right (c .args .l) (c .pre .1), c .pre .0 .reach, c .pre .0 .small)) (λ c. omega (arith, mul-le-mul-right (c .args .l) (c .pre .1), c .pre .0 .reach)) (λ c. search needs) (λ c. search needs) returns)
