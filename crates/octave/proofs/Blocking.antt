@@ -69,7 +69,7 @@ module _ {m : List ℤ} {bands size from : ℕ} (a : Accepted m bands) (es : siz
         few = few;
         stretch = omega arith;
         sized = ap (λ (k : ℕ). 9 * k) (sym (one-mul (2 ^ (bands - 1))));
-        whole = rw (length-drop 2 m, a .long) (omega arith);
+        whole = rw (length-drop headPlaces m, a .long) (omega arith);
         small = line-small bands few;
       })
 
