@@ -1,5 +1,5 @@
 -- `row::line_over` meets its contract. Assumes nothing.
-use mathlib.Core.Path.{refl, _∙_}
+use mathlib.Core.Path.{_∙_}
 use Prim.Native.Nat.{_≤_}
 use native.Mathlib.Omega.{arith}
 use lib.ListN.{length}
@@ -16,17 +16,6 @@ the-cuts c =
     let s = c .before .before in
     let a = s .args in
     cuts (a .size) (a .at) (a .l) (a .n) (c .before .up-to .result) (c .up-to2 .result) (s .pre .before-end) (c .before .up-to .ensures) (c .up-to2 .ensures)
-
-near-requires : tie.Need-near-requires
-near-requires c κs =
-    let c2 = c .before .before in
-    let s = c2 .before .before in
-    let a = s .args in
-    let k = the-cuts c2 in (
-      part-of-row published (a .size) (a .at) (a .l) (a .n) (now (a .lines)) (now (a .rows)) (s .pre) 0 (c2 .before .up-to .result) (now (a .lines)) (now (a .rows))
-          (omega arith) (omega (arith, k .first, k .second)) refl refl,
-      k .near,
-    )
 
 far-requires : tie.Need-far-requires
 far-requires c κs =
@@ -83,7 +72,7 @@ line-over-spec =
     (λ c κs. search needs)
     (λ c. search needs)
     (λ c κs. search needs)
-    near-requires
+    (λ c κs. search needs)
     far-requires
     straight-requires
     (λ c. search needs)
