@@ -1,6 +1,6 @@
 #!/usr/bin/env bash
 # The C interface from outside: the archive is built, the minimal program is held to its stored output, and the archive is
-# held to models written from the rules. Prints the seed, and else only what fails. --long and --seed N are handed on.
+# held to models written from the rules, on files of sox and ffmpeg among others. Prints the seed, and else only what fails. --long and --seed N are handed on.
 set -euo pipefail
 cd "$(dirname "${BASH_SOURCE[0]}")/.."
 source tests/x86.sh
@@ -11,5 +11,7 @@ rt staticlib capi > "$made/log" 2>&1 || { cat "$made/log"; exit 1; }
 archive=target/staticlib/libcapi.a
 "${CC[@]}" "${CFLAGS[@]}" examples/minimal.c "$archive" -o "$made/minimal"
 "${RUN[@]}" "$made/minimal" | diff examples/minimal.expected -
+"${CC[@]}" "${CFLAGS[@]}" tests/files.c "$archive" -o "$made/files"
+"${RUN[@]}" "$made/files" tests/files/*.wav | diff <(python3 tests/wave_files.py tests/files/*.wav) -
 "${CC[@]}" "${CFLAGS[@]}" -Itests/model tests/differential/*.c tests/model/tree.c "$archive" -lm -o "$made/differential"
 "${RUN[@]}" "$made/differential" "$@"

@@ -11,7 +11,7 @@ import time
 
 from model.compiled import Tree
 from model.gains import GAINS
-from model.wave import WHOLE, chunk, file24, fmt, riff
+from model.wave import LARGEST, WHOLE, chunk, file24, fmt, riff
 
 TOP = os.path.join(os.path.dirname(os.path.abspath(__file__)), "..")
 PROGRAM = os.path.join(TOP, "eqwave")
@@ -122,8 +122,8 @@ def headers():
         ("data past 4096", riff(fmt(), pad, data), 24),
         ("4 bytes of data", riff(fmt(), chunk(b"data", b"\0" * 4)), 25),
         ("3 bytes of data in 16 bits", riff(fmt(bits=16), chunk(b"data", b"\0" * 3)), 25),
-        ("too long to be written in 24 bits", riff(fmt(), chunk(b"data", b"", 4294967262)), 26),
-        ("too long to be written in 16 bits", riff(fmt(bits=16), chunk(b"data", b"", 2 * 1431655754)), 26),
+        ("too long to be written in 24 bits", riff(fmt(), chunk(b"data", b"", LARGEST + 3)), 26),
+        ("too long to be written in 16 bits", riff(fmt(bits=16), chunk(b"data", b"", 2 * (LARGEST // 3 + 1))), 26),
     ]:
         refused(name, ZERO, source, number)
 

@@ -1,7 +1,7 @@
 #!/usr/bin/env python3
 """Writes the edge cases of the WAVE reader: small files, each a step to one side of what the rules accept.
 
-    python3 tests/wave_cases.py crates/wave_readings/data
+    python3 tests/wave_cases.py tests/files
 """
 import os
 import sys

@@ -2,6 +2,7 @@
 import struct
 
 RATES = (44100, 48000)
+LARGEST = 2**32 - 1 - 36  # the RIFF size counts 36 bytes more, in 32 bits
 
 
 # ---- the builder: each part may be made wrong
@@ -86,7 +87,7 @@ def write(room, rate, length):
         return 27
     if rate not in RATES:
         return 28
-    if length % 3 or length > 4294967259:
+    if length % 3 or length > LARGEST:
         return 26
     return riff(fmt(rate), chunk(b"data", b"", length), size=length + 36)
 

@@ -2,11 +2,8 @@
 // No contract can say what is written. A function that hands something over says what it is.
 pub mod places;
 
-use whole::counts::least;
-use whole::counts::wide;
 ghost use mathlib.Core.Path.{_≡_};
 ghost use lib.IntN.{natAbs};
-ghost use Rattle.printing.specs.Part.{Front};
 
 // What a call answered: a number, or the number of its refusal.
 pub enum Answer {
@@ -49,14 +46,6 @@ pub fn signed_field(z: i32) {
     io::print_decimal(1, magnitude(z));
 }
 
-// A space and two digits for each byte.
-pub fn hex(s: &[u8]) {
-    text(b" ");
-    for i in 0..s.len() {
-        io::print_hex(1, wide(s[i]) as u64, 2);
-    }
-}
-
 // A space and the eight digits of a float's bits.
 pub fn pattern(bits: u32) {
     text(b" ");
@@ -75,11 +64,4 @@ pub fn told(answer: Answer) {
             field(n);
         }
     }
-}
-
-// How many of the first n bytes there are.
-pub fn front_bytes(n: usize, s: &[u8]) -> usize
-    ensures { λ r. ⌜ Front n r (now (s .entry)) ⌝ }
-{
-    least(n, s.len())
 }
