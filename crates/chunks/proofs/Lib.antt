@@ -1,3 +1,4 @@
 pub mod Alike
 pub mod Deciding
+pub mod Headers
 pub mod Walks
