@@ -1,0 +1,4 @@
+pub mod Alike
+pub mod Deciding
+pub mod Headers
+pub mod Walks
