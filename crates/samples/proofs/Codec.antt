@@ -15,6 +15,8 @@ use Rattle.answers.specs.Checks.{decide}
 use Rattle.answers.specs.Range.{within, allWithin}
 use Rattle.answers.specs.Unit.{leastSample, mostSample}
 use Rattle.fields.specs.Bytes.{lowest, field, row}
+use Rattle.fields.proofs.ByTest.{by-order}
+use Rattle.fields.proofs.Rows.{length-row, sets-whole}
 use Rattle.samples.specs.Sample.{numberOf, codeOf, sampleIn, fromBytes, toBytes}
 use Rattle.samples.specs.Samples.{bytesOf, blockTo}
 use Rattle.samples.specs.Format.{sizeOf}
@@ -23,8 +25,6 @@ use Rattle.samples.specs.declared.format.Format.the-variants.{Bits16, Bi
 use Rattle.samples.specs.declared.single.Sample.the-variants as sample
 use Rattle.samples.specs.declared.single.Put.the-variants as put
 use Rattle.samples.specs.declared.block.Stored.the-variants as stored
-use Rattle.fields.proofs.ByTest.{by-order}
-use Rattle.fields.proofs.Rows.{length-row, sets-whole}
 
 -- ---- sixteen bits
 

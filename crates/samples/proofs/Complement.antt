@@ -11,10 +11,10 @@ use borrow.Author.Tests.{leb-true, le-leb, ltb-true, ltb-false, lt-ltb, le-ltb}
 use mir.Syntax.{w32}
 use mir.Val.{Fits, SFits, toZ, ofZ}
 use mir.Facts.{toZ-ofZ, toZ-pos}
-use Rattle.fields.proofs.ByTest.{by-order}
 use Rattle.answers.specs.Range.{within}
 use Rattle.answers.specs.Unit.{leastSample, mostSample}
 use Rattle.answers.proofs.Ranges.{within-ends}
+use Rattle.fields.proofs.ByTest.{by-order}
 use Rattle.samples.specs.Sample.{numberOf, codeOf}
 
 -- ---- the range

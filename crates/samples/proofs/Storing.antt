@@ -8,9 +8,9 @@ use lib.ListN.{length, getD, take, drop, length-append, length-drop, drop-of-len
 use lib.Seq.{take-all, take-suc, drop-drop, sets, sets-eq, length-sets, take-at, drop-append-add, length-take-le}
 use lib.IntN.{ℤ, pos}
 use Rattle.fields.specs.Bytes.{lowest, row}
+use Rattle.fields.proofs.Rows.{length-row}
 use Rattle.samples.specs.Sample.{codeOf}
 use Rattle.samples.specs.Samples.{bytesOf}
-use Rattle.fields.proofs.Rows.{length-row}
 
 pub length-bytes : (s : List ℤ) → length (bytesOf s) ≡ 3 * length s
 unfolding bytesOf

@@ -2,9 +2,9 @@
 use borrow.Author.Needs.{needs}
 use lib.ListN.{length}
 use Rattle.answers.proofs.Branches.{judging}
+use Rattle.fields.proofs.ByTest.{dividing}
 use Rattle.samples.specs.Samples.{blockFrom}
 use Rattle.samples.specs.Format.{sizeOf}
-use Rattle.fields.proofs.ByTest.{dividing}
 use Rattle.samples.proofs.Taking.{whole-is}
 use Rattle.samples.proofs.block.bytes_to_samples.Statement.{statement}
 use Rattle.samples.proofs.block.bytes_to_samples.Tie as tie

@@ -8,10 +8,10 @@ use lib.IntN.{pos}
 use mir.Syntax.{w32}
 use lib.Seq.{sets}
 use mir.Facts.{toZ-ofZ}
-use Rattle.fields.specs.Bytes.{lowest, row}
 use Rattle.answers.specs.Range.{within}
 use Rattle.answers.specs.Unit.{leastSample, mostSample}
 use Rattle.answers.proofs.Ranges.{all-at}
+use Rattle.fields.specs.Bytes.{lowest, row}
 use Rattle.samples.specs.Sample.{codeOf}
 use Rattle.samples.proofs.Storing.{Storing, storing-start, storing-turn, storing-end}
 use Rattle.samples.proofs.block.store_all.Statement.{statement}
