@@ -2,7 +2,7 @@
 use mathlib.Core.Path.{_≡_, refl, sym, ap, _∙_, subst}
 use mathlib.Core.List.{List, [], _∷_, _++_, append-nil, append-assoc, reverse, reverseAux, reverse-append, reverse-reverse}
 use Prim.Native.Nat.{ℕ, suc, _+_, _-_, _*_, _/_, _%_, _^_, _<_, _≤_}
-use native.Mathlib.Nat.{add-zero, add-suc, suc-add, add-comm, mul-comm, mod-lt, div-lt-iff-lt-mul}
+use native.Mathlib.Nat.{add-zero, add-suc, suc-add, add-comm, mul-comm, mod-lt, div-lt-iff-lt-mul, pow-le-pow-right}
 use lib.Pow.{pow-add}
 use native.Mathlib.Omega.{arith}
 use lib.ListN.{length, getD, take, drop, set, length-reverse, length-drop, drop-of-length-le}
@@ -51,10 +51,12 @@ row-number order s bytes =
     ap (λ (k : ℕ). ordered order (little k (number (ordered order s)))) (sym (length-ordered order s))
     ∙ ap (ordered order) (little-number (ordered order s) (bytes-ordered order s bytes)) ∙ ordered-twice order s
 
-pub number-in-below : (order : Order) (s : List ℕ) → Bytes s → numberIn order s < 256 ^ length s
+pub number-in-below : (order : Order) (k : ℕ) (s : List ℕ) → Bytes s → length s ≤ k → numberIn order s < 256 ^ k
 unfolding numberIn
-number-in-below order s bytes =
-    subst (λ (k : ℕ). number (ordered order s) < 256 ^ k) (length-ordered order s) (number-below (ordered order s) (bytes-ordered order s bytes))
+number-in-below order k s bytes h =
+    let below = number-below (ordered order s) (bytes-ordered order s bytes) in
+    let most : 256 ^ length (ordered order s) ≤ 256 ^ k = pow-le-pow-right (omega arith) (rw (length-ordered order s) h) in
+    omega arith
 
 -- ---- two parts
 
