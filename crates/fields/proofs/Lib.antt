@@ -1,0 +1,4 @@
+pub mod ByTest
+pub mod Naming
+pub mod Numbers
+pub mod Rows
