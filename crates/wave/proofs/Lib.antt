@@ -1,14 +1,3 @@
-pub mod AfterData
-pub mod ByTest
 pub mod Chunks
-pub mod Codec
-pub mod Complement
-pub mod Little
-pub mod OneAnswer
-pub mod RoundTrips
-pub mod Singles
-pub mod Storing
-pub mod Taking
-pub mod Unread
-pub mod Walks
-pub mod Writing
+pub mod Judging
+pub mod RightValues
