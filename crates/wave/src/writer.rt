@@ -18,6 +18,7 @@ ghost use Rattle.answers.specs.Checks.{Done};
 ghost use Rattle.answers.specs.Unit.{largestData};
 ghost use Rattle.wave.specs.Values.{fmtLength};
 ghost use Rattle.wave.specs.Header.{headerBytes, header, fmtContents, writeOf};
+ghost use Rattle.wave.specs.Private.{fmtSizes};
 
 // The bytes of the header.
 const HEADER_BYTES: usize = 44;
@@ -34,18 +35,26 @@ pub enum Written {
     WrongLength,
 }
 
+// The last three values of `fmt `: byte rate, block size, bits.
+fn put_sizes(buffer: &mut [u8], at: usize, rate: u32)
+    requires { ⌜ (at + 8 ≤ length (now buffer)) × (rate ≤ 48000) ⌝ }
+    ensures { λ _. ⌜ now (buffer .exit) ≡ sets (now (buffer .entry)) at (fmtSizes rate) ⌝ }
+{
+    let frame = frame_size(Format::Bits24);
+    put_four(buffer, at, rate * frame);
+    put_two(buffer, at + 4, frame);
+    put_two(buffer, at + 6, bits(Format::Bits24));
+}
+
 // The contents of `fmt ` for 24 bits.
 fn put_format(buffer: &mut [u8], at: usize, rate: u32)
     requires { ⌜ (at + fmtLength ≤ length (now buffer)) × (rate ≤ 48000) ⌝ }
     ensures { λ _. ⌜ now (buffer .exit) ≡ sets (now (buffer .entry)) at (fmtContents rate) ⌝ }
 {
-    let frame = frame_size(Format::Bits24);
     put_two(buffer, at, 1);
     put_two(buffer, at + 2, CHANNELS);
     put_four(buffer, at + 4, rate);
-    put_four(buffer, at + 8, rate * frame);
-    put_two(buffer, at + 12, frame);
-    put_two(buffer, at + 14, bits(Format::Bits24));
+    put_sizes(buffer, at + 8, rate);
 }
 
 fn put_header(buffer: &mut [u8], rate: u32, size: u32)

@@ -1,53 +1,30 @@
+-- `writer::put_header` meets its contract: five rows, one behind the other, are the header. Assumes nothing.
 use borrow.Author.Needs.{needs}
+use Rattle.wave.proofs.Writing.{header-row}
 use Rattle.wave.proofs.writer.put_header.Statement.{statement}
 use Rattle.wave.proofs.writer.put_header.Tie as tie
-use Rattle.wave.proofs.writer.put_header.Reads as reads
-use Rattle.wave.proofs.writer.put_header.Lts as lts
-use Rattle.chunks.proofs.lowest.put_chunk.Reads as put-chunk-reads
-use Rattle.fields.proofs.names.put_name.Reads as put-name-reads
-use Rattle.wave.proofs.writer.put_format.Reads as put-format-reads
 
--- src/writer.rt:55:35
-add-put-chunk : tie.Need-add-put-chunk
-add-put-chunk c = search needs
-
--- src/writer.rt:55:5
-put-chunk-requires : tie.Need-put-chunk-requires
-put-chunk-requires c κs = search needs
-
--- src/writer.rt:56:5
-put-name-requires : tie.Need-put-name-requires
-put-name-requires c κs = search needs
-
--- src/writer.rt:57:5
-put-chunk-requires-2 : tie.Need-put-chunk-requires-2
-put-chunk-requires-2 c κs = search needs
-
--- src/writer.rt:58:5
-put-format-requires : tie.Need-put-format-requires
-put-format-requires c κs = search needs
-
--- src/writer.rt:59:5
-put-chunk-requires-3 : tie.Need-put-chunk-requires-3
-put-chunk-requires-3 c κs = search needs
-
--- src/writer.rt:51:1
-same-length : tie.Need-same-length
-same-length c = search needs
-
--- src/writer.rt:51:1
 returns : tie.Need-returns
-returns c = {! !}
+returns c =
+    let m₅ = c .before .before in
+    let m₄ = m₅ .before .before .before .before .before in
+    let m₃ = m₄ .before .before .before .before in
+    let m₂ = m₃ .before .before .before .before .before in
+    let m₁ = m₂ .before .before .before .before .before in
+    let e = m₁ .before .before .before .before in
+    header-row (e .args .rate) (e .args .size) (e .args .buffer .now) (m₁ .put-chunk .last .0) (m₂ .put-name .last .0)
+    (m₃ .put-chunk2 .last .0) (m₄ .put-format .last .0) (m₅ .put-chunk3 .last .0) (e .pre .0) (m₁ .put-chunk .ensures)
+    (m₂ .put-name .ensures) (m₃ .put-chunk2 .ensures) (m₄ .put-format .ensures) (m₅ .put-chunk3 .ensures)
 
 pub put-header-spec : {M : Type 1} → statement M
 put-header-spec =
     tie.close
     (tie.spec
-    add-put-chunk
-    put-chunk-requires
-    put-name-requires
-    put-chunk-requires-2
-    put-format-requires
-    put-chunk-requires-3
-    same-length
+    (λ c. search needs)
+    (λ c κs. search needs)
+    (λ c κs. search needs)
+    (λ c κs. search needs)
+    (λ c κs. search needs)
+    (λ c κs. search needs)
+    (λ c. search needs)
     returns)
