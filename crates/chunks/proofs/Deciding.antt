@@ -4,7 +4,6 @@ use mathlib.Core.List.{List}
 use Prim.Native.Nat.{ℕ, zero, suc, _+_, _-_, _≤_}
 use native.Mathlib.Omega.{arith}
 use lib.ListN.{length, drop}
-use lib.Dec.{leb}
 use Rattle.fields.specs.Bytes.{Order}
 use Rattle.chunks.specs.Walk.{headerLength, sizeIn, next, Step, ends, on, visit, follow, walk}
 use Rattle.chunks.proofs.Alike.{Alike, alike-drop, field-alike}

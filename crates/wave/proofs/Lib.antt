@@ -1,14 +1,4 @@
-pub mod AfterData
-pub mod ByTest
 pub mod Chunks
-pub mod Codec
-pub mod Complement
-pub mod Little
-pub mod OneAnswer
-pub mod RoundTrips
-pub mod Singles
-pub mod Storing
-pub mod Taking
-pub mod Unread
-pub mod Walks
+pub mod Judging
+pub mod RightValues
 pub mod Writing
