@@ -1,12 +1,12 @@
--- `waves::oeq_sample_from_bytes` meets its contract: the library call's answer, encoded. Assumes nothing.
+-- `codec::oeq_sample_from_bytes` meets its contract: the library call's answer, encoded. Assumes nothing.
 use mathlib.Core.Path.{ap}
 use borrow.Author.Needs.{needs}
 use denote.Ref.{now}
-use Rattle.wave.specs.Sample.{sampleAnswer}
+use Rattle.samples.specs.Sample.{sampleAnswer}
 use Rattle.capi.proofs.Encoding.{signed-fits, signed-is}
 use Rattle.capi.proofs.Returnable.{sample-returnable}
-use Rattle.capi.proofs.waves.oeq_sample_from_bytes.Statement.{statement}
-use Rattle.capi.proofs.waves.oeq_sample_from_bytes.Tie as tie
+use Rattle.capi.proofs.codec.oeq_sample_from_bytes.Statement.{statement}
+use Rattle.capi.proofs.codec.oeq_sample_from_bytes.Tie as tie
 
 returns : tie.Need-returns
 returns c =

@@ -1,12 +1,12 @@
--- `waves::oeq_sample_to_bytes` meets its contract: the library call's answer, encoded, and what it leaves. Assumes nothing.
+-- `codec::oeq_sample_to_bytes` meets its contract: the library call's answer, encoded, and what it leaves. Assumes nothing.
 use borrow.Author.Needs.{needs}
 use denote.Ref.{now}
 use mir.Facts.{toZ-ofZ}
-use Rattle.wave.specs.Sample.{toBytes, putAnswer}
+use Rattle.samples.specs.Sample.{toBytes, putAnswer}
 use Rattle.capi.proofs.Encoding.{lent-fits, lent-returned}
 use Rattle.capi.proofs.Returnable.{put-counted}
-use Rattle.capi.proofs.waves.oeq_sample_to_bytes.Statement.{statement}
-use Rattle.capi.proofs.waves.oeq_sample_to_bytes.Tie as tie
+use Rattle.capi.proofs.codec.oeq_sample_to_bytes.Statement.{statement}
+use Rattle.capi.proofs.codec.oeq_sample_to_bytes.Tie as tie
 
 returns : tie.Need-returns
 returns c =

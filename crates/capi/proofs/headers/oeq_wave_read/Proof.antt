@@ -1,4 +1,4 @@
--- `waves::oeq_wave_read` meets its contract: the reader's answer, encoded, and what was found stored. Assumes nothing.
+-- `headers::oeq_wave_read` meets its contract: the reader's answer, encoded, and what was found stored. Assumes nothing.
 use mathlib.Core.Path.{sym, ap, subst, _∙_}
 use borrow.Author.Needs.{needs}
 use denote.Ref.{now}
@@ -8,8 +8,8 @@ use Rattle.capi.specs.Found.{ofFound, foundAfter}
 use Rattle.capi.specs.Parts.{StartFits}
 use Rattle.capi.proofs.Encoding.{count-fits, count-is}
 use Rattle.capi.proofs.Reading.{read-counted, start-fits}
-use Rattle.capi.proofs.waves.oeq_wave_read.Statement.{statement}
-use Rattle.capi.proofs.waves.oeq_wave_read.Tie as tie
+use Rattle.capi.proofs.headers.oeq_wave_read.Statement.{statement}
+use Rattle.capi.proofs.headers.oeq_wave_read.Tie as tie
 
 store-requires : tie.Need-store-requires
 store-requires c κs = subst StartFits (sym (c .before .read .ensures)) (start-fits (now (c .before .before .before .args .front)))

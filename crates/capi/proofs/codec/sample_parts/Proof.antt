@@ -1,14 +1,14 @@
--- `waves::sample_parts` meets its contract. Assumes nothing.
+-- `codec::sample_parts` meets its contract. Assumes nothing.
 use mathlib.Core.Path.{sym, ap, _∙_}
 use borrow.Author.Needs.{needs, sfits-of}
 use lib.IntN.{pos}
 use mir.Facts.{toZ-ofZ}
 use mir.Syntax.{w32}
-use Rattle.wave.specs.Sample.{sampleAnswer}
-use Rattle.wave.specs.declared.sample.Sample.{Sample}
+use Rattle.samples.specs.Sample.{sampleAnswer}
+use Rattle.samples.specs.declared.single.Sample.{Sample}
 use Rattle.capi.specs.Parts.{valueIn}
-use Rattle.capi.proofs.waves.sample_parts.Statement.{statement}
-use Rattle.capi.proofs.waves.sample_parts.Tie as tie
+use Rattle.capi.proofs.codec.sample_parts.Statement.{statement}
+use Rattle.capi.proofs.codec.sample_parts.Tie as tie
 
 returns : tie.Need-returns
 returns c =

@@ -1,4 +1,4 @@
--- `waves::store` meets its contract: only an accepted reading is stored. Assumes nothing.
+-- `headers::store` meets its contract: only an accepted reading is stored. Assumes nothing.
 use mathlib.Core.Path.{sym, ap, subst}
 use borrow.Author.Needs.{needs}
 use denote.Ref.{now}
@@ -7,8 +7,8 @@ use Rattle.wave.specs.declared.reader.Reading.{Reading}
 use Rattle.capi.specs.Found.{foundAfter}
 use Rattle.capi.specs.Parts.{StartFits}
 use Rattle.capi.proofs.Reading.{kept}
-use Rattle.capi.proofs.waves.store.Statement.{statement}
-use Rattle.capi.proofs.waves.store.Tie as tie
+use Rattle.capi.proofs.headers.store.Statement.{statement}
+use Rattle.capi.proofs.headers.store.Tie as tie
 
 cast-found : tie.Need-cast-found
 cast-found c =

@@ -1,16 +1,10 @@
-// The WAVE header and the sample codec.
+// The WAVE header.
 use crate::code::CountParts;
-use crate::code::SignedParts;
 use crate::code::count;
-use crate::code::signed;
-use wave::Put;
 use wave::Reading;
-use wave::Sample;
 use wave::Written;
 ghost use mathlib.Core.Path.{_≡_};
-ghost use lib.IntN.{pos};
 ghost use Rattle.wave.specs.Header.{writeOf, writeAnswer};
-ghost use Rattle.wave.specs.Sample.{fromBytes, toBytes, sampleAnswer, putAnswer};
 ghost use Rattle.wave.specs.Walk.{readOf, readAnswer};
 ghost use Rattle.capi.specs.Answers.{ofCount, Returned};
 ghost use Rattle.capi.specs.Encode.{encode};
@@ -47,7 +41,7 @@ fn store(answer: Reading, found: &mut [u32; 4])
         start,
     } = answer {
         found[0] = rate;
-        found[1] = wave::bits(format);
+        found[1] = samples::bits(format);
         found[2] = length;
         found[3] = start as u32;
     }
@@ -61,25 +55,6 @@ fn write_parts(answer: Written) -> CountParts
         Written::WrongBuffer => CountParts(27, 0, 0),
         Written::WrongRate => CountParts(28, 0, 0),
         Written::WrongLength => CountParts(26, 0, 0),
-    }
-}
-
-fn sample_parts(answer: Sample) -> SignedParts
-    ensures { λ r. ⌜ Parts (pos 0) (sampleAnswer answer) (r .0) (r .1) (r .2) ⌝ }
-{
-    match answer {
-        Sample::Is(z) => SignedParts(0, 0, z),
-        Sample::WrongLength => SignedParts(18, 0, 0),
-    }
-}
-
-fn put_parts(answer: Put) -> CountParts
-    ensures { λ r. ⌜ Parts 0 (putAnswer answer) (r .0) (r .1) (r .2) ⌝ }
-{
-    match answer {
-        Put::Done(n) => CountParts(0, 0, n),
-        Put::WrongLength => CountParts(18, 0, 0),
-        Put::OutOfRange => CountParts(19, 0, 0),
     }
 }
 
@@ -98,18 +73,4 @@ pub extern "C" fn oeq_wave_write(buffer: &mut [u8], rate: u32, size: u32) -> i64
     ensures { λ r. ⌜ Returned (λ a. ofCount (writeAnswer a)) (writeOf (now (buffer .entry)) rate size) r (now (buffer .exit)) ⌝ }
 {
     count(write_parts(wave::write(buffer, rate, size)))
-}
-
-#[no_mangle]
-pub extern "C" fn oeq_sample_from_bytes(bytes: &[u8]) -> i64
-    ensures { λ r. ⌜ r ≡ encode (sampleAnswer (fromBytes (now (bytes .entry)))) ⌝ }
-{
-    signed(sample_parts(wave::sample_from_bytes(bytes)))
-}
-
-#[no_mangle]
-pub extern "C" fn oeq_sample_to_bytes(sample: i32, buffer: &mut [u8]) -> i64
-    ensures { λ r. ⌜ Returned (λ a. ofCount (putAnswer a)) (toBytes sample (now (buffer .entry))) r (now (buffer .exit)) ⌝ }
-{
-    count(put_parts(wave::sample_to_bytes(sample, buffer)))
 }
