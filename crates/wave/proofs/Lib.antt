@@ -1,6 +1,9 @@
+pub mod AfterData
 pub mod Answers
 pub mod Chunks
 pub mod Judging
+pub mod OneAnswer
 pub mod RightValues
 pub mod Steps
+pub mod Unread
 pub mod Writing
