@@ -1,19 +1,19 @@
 -- What stands after the `data` header does not matter: once the walk comes to it, the bytes up to its end decide the answer. Assumes nothing.
 use mathlib.Core.Path.{_≡_, refl, sym, ap, _∙_, subst}
-use mathlib.Core.Bool.{Bool, true, false, _&&_, cond}
+use mathlib.Core.Bool.{true, false, cond}
 use mathlib.Core.List.{List}
 use Prim.Native.Nat.{ℕ, _+_, _≤_}
 use native.Mathlib.Omega.{arith}
 use lib.ListN.{length, take, drop, length-take, length-drop}
 use lib.Seq.{take-take}
-use lib.Dec.{eqb, leb}
+use lib.Dec.{eqb}
 use borrow.Author.Tests.{eqb-true, le-leb}
 use Rattle.answers.specs.Answer.{Answer, accepted, refused}
 use Rattle.answers.specs.Unit.{frontLength}
-use Rattle.fields.specs.Bytes.{lowest, field, same}
+use Rattle.fields.specs.Bytes.{lowest, same}
 use Rattle.fields.proofs.ByTest.{by-test, cond-case}
 use Rattle.fields.proofs.Naming.{same-is}
-use Rattle.chunks.specs.Walk.{headerLength, sizeIn, named, contained, Step, ends, visit, walk}
+use Rattle.chunks.specs.Walk.{headerLength, sizeIn, named, ends, visit}
 use Rattle.chunks.proofs.Alike.{Alike, alike, alike-drop, field-alike, name-alike}
 use Rattle.chunks.proofs.Walks.{visit-whole}
 use Rattle.chunks.proofs.Deciding.{OwnChunk, Comes, comes-further, decides}

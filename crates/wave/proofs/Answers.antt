@@ -1,6 +1,6 @@
 -- What an answer of the finder and of the reader tells, for the crates above: they go by its cases, and never walk again. Assumes nothing.
-use mathlib.Core.Path.{_≡_, refl, sym, ap, _∙_, subst}
-use mathlib.Core.Bool.{Bool, true, false, _&&_, cond}
+use mathlib.Core.Path.{_≡_, refl, sym, ap, subst}
+use mathlib.Core.Bool.{true, _&&_}
 use mathlib.Core.List.{List}
 use Prim.Native.Nat.{ℕ, _+_, _%_, _≤_}
 use native.Mathlib.Omega.{arith}
@@ -11,12 +11,12 @@ use Rattle.answers.specs.Answer.{Answer, accepted, refused}
 use Rattle.answers.specs.Unit.{frontLength}
 use Rattle.fields.specs.Bytes.{lowest, same}
 use Rattle.fields.proofs.ByTest.{cond-case}
-use Rattle.chunks.specs.Walk.{headerLength, named, Step, ends, visit, walk}
+use Rattle.chunks.specs.Walk.{headerLength, named, Step, ends, walk}
 use Rattle.chunks.proofs.Walks.{Visited, cuts, steps, visited}
 use Rattle.chunks.proofs.Deciding.{Comes, comes-further, landing, kept}
 use Rattle.wave.specs.Names.{riff, wave, data′}
 use Rattle.wave.specs.Values.{frameSize, knownRate}
-use Rattle.wave.specs.Walk.{Found, Seen, nothing, sound, chunk, find, findOf, wholeFrames, readOf, readAnswer}
+use Rattle.wave.specs.Walk.{Found, Seen, nothing, chunk, find, findOf, wholeFrames, readOf, readAnswer}
 use Rattle.wave.specs.declared.reader.Reading.{Reading}
 use Rattle.wave.proofs.Steps.{Good, Says, goes, lands, chunk-says}
 use Rattle.wave.proofs.Steps as says
