@@ -1,4 +1,10 @@
+pub mod AfterData
+pub mod Answers
 pub mod Chunks
 pub mod Judging
+pub mod OneAnswer
 pub mod RightValues
+pub mod RoundTrips
+pub mod Steps
+pub mod Unread
 pub mod Writing

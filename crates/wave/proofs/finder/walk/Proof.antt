@@ -8,7 +8,7 @@ use native.Mathlib.Omega.{arith}
 use lib.ListN.{length, drop, length-drop}
 use Rattle.answers.specs.Answer.{Answer, refused}
 use Rattle.fields.specs.Bytes.{lowest}
-use Rattle.chunks.specs.Walk.{headerLength, sizeIn, next, Step, ends, on, walk}
+use Rattle.chunks.specs.Walk.{headerLength, sizeIn, Step, ends, on, walk}
 use Rattle.chunks.proofs.Headers.{header-there, header-gone}
 use Rattle.chunks.proofs.Walks.{lent-rest, next-further, walk-ends, walk-on, walk-past}
 use Rattle.wave.specs.Walk.{Found, Seen, nothing, chunk, findAnswer}
