@@ -8,10 +8,10 @@ use Rattle.answers.specs.Answer.{Answer, accepted, refused}
 use Rattle.answers.proofs.Laws.{one-case}
 use Rattle.wave.specs.declared.format.Format.the-variants.{Bits16, Bits24}
 use Rattle.eqfile.specs.declared.taking.Arguments.{Arguments}
-use Rattle.eqfile.specs.declared.order.Refusal.{Refusal}
-use Rattle.eqfile.specs.declared.order.Refusal.the-variants as refusal
-use Rattle.eqfile.specs.declared.order.Start.{Start}
-use Rattle.eqfile.specs.declared.order.Start.the-variants as start
+use Rattle.eqfile.specs.declared.refusal.Refusal.{Refusal}
+use Rattle.eqfile.specs.declared.refusal.Refusal.the-variants as refusal
+use Rattle.eqfile.specs.declared.start.Start.{Start}
+use Rattle.eqfile.specs.declared.start.Start.the-variants as start
 use Rattle.eqfile.specs.Start.{Plan, numberOf, startOf, startAnswer}
 
 -- ---- the way back

@@ -12,7 +12,7 @@ use Rattle.wave.specs.declared.format.Format.the-variants.{Bits16, Bits24}
 use Rattle.answers.specs.Unit.{blockLimit}
 use Rattle.tree.specs.Prototype.{published}
 use Rattle.tree.specs.Tree.{delay}
-use Rattle.eqfile.specs.declared.plan.Turn.{Turn}
+use Rattle.eqfile.specs.declared.turn.Turn.{Turn}
 use Rattle.eqfile.specs.Arguments.{bands}
 use Rattle.eqfile.specs.Turn.{late, fedInAll, allRead, wantedOf, turnOf}
 

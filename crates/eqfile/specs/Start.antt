@@ -10,10 +10,10 @@ use Rattle.wave.specs.Walk.{Found, readOf}
 use Rattle.eqfile.specs.declared.taking.Arguments.{Arguments}
 use Rattle.eqfile.specs.declared.taking.Arguments.the-variants as arguments
 use Rattle.eqfile.specs.Arguments.{bands}
-use Rattle.eqfile.specs.declared.order.Refusal.{Refusal}
-use Rattle.eqfile.specs.declared.order.Refusal.the-variants as refusal
-use Rattle.eqfile.specs.declared.order.Start.{Start}
-use Rattle.eqfile.specs.declared.order.Start.the-variants.{Run, Refused}
+use Rattle.eqfile.specs.declared.refusal.Refusal.{Refusal}
+use Rattle.eqfile.specs.declared.refusal.Refusal.the-variants as refusal
+use Rattle.eqfile.specs.declared.start.Start.{Start}
+use Rattle.eqfile.specs.declared.start.Start.the-variants.{Run, Refused}
 
 -- rule 10.6: a run: rate and bits of the file, its number of samples, and where their bytes start
 pub record Plan : Type 0 where
