@@ -8,3 +8,7 @@ pub mod AllowedGains
 pub mod Program
 pub mod AllAsked
 pub mod GivenBack
+pub mod ReadRight
+pub mod Starting
+pub mod DataRead
+pub mod WholeFile
