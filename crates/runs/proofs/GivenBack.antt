@@ -1,13 +1,13 @@
 -- What a run writes is read back as its outputs; and eight noughts give the data of a 24-bit file back, byte for byte. Both whatever the
 -- pieces it was read in. Assumes nothing.
-use mathlib.Core.Path.{_≡_, refl, sym, ap, ap₂, _∙_}
+use mathlib.Core.Path.{_≡_, sym, ap, ap₂, _∙_}
 use mathlib.Core.Bool.{true}
 use mathlib.Core.List.{List, [], _∷_, _++_, append-nil}
 use Prim.Native.Nat.{ℕ, zero, suc, _+_, _-_, _*_, _/_, _<_, min}
 use native.Mathlib.Nat.{add-comm}
 use native.Mathlib.Omega.{arith}
-use lib.ListN.{length, getD, take, drop, replicate, length-drop, take-append-drop}
-use lib.Seq.{getD-drop, ext-getD, length-take-le}
+use lib.ListN.{length, getD, replicate}
+use lib.Seq.{ext-getD}
 use lib.IntN.{ℤ, pos}
 use Rattle.whole.proofs.Signed.{var, le-by}
 use Rattle.tree.specs.Prototype.{published}
