@@ -12,7 +12,7 @@ use Rattle.gain.specs.Answer.{answerOf}
 use Rattle.gain.specs.Promise.{commandGain}
 use Rattle.gain.specs.declared.Command.{Command}
 use Rattle.wave.specs.Header.{writeOf, writeAnswer}
-use Rattle.wave.specs.Sample.{fromBytes, toBytes, sampleAnswer, putAnswer}
+use Rattle.samples.specs.Sample.{fromBytes, toBytes, sampleAnswer, putAnswer}
 use Rattle.wave.specs.Walk.{readOf}
 use Rattle.capi.specs.Answers.{ofCount}
 use Rattle.capi.specs.Encode.{encode, decode}

@@ -30,16 +30,16 @@ use Rattle.gain.specs.declared.Command.{Command}
 use Rattle.gain.specs.declared.Gained.{Gained}
 use Rattle.gain.specs.declared.Gained.the-variants.{Gain, NotHalfDecibels, NotFactor}
 use Rattle.gain.proofs.Answers.{within}
-use Rattle.wave.specs.Bytes.{number, little}
+use Rattle.fields.specs.Bytes.{lowest, numberIn, row}
+use Rattle.fields.proofs.ByTest.{cond-case}
 use Rattle.wave.specs.Header.{header, writeChecks, writeOf, writeAnswer}
-use Rattle.wave.specs.Sample.{codeOf, numberOf, sampleIn, fromBytes, putChecks, toBytes, sampleAnswer, putAnswer}
-use Rattle.wave.specs.declared.format.Format.{Format}
-use Rattle.wave.specs.declared.format.Format.the-variants.{Bits16, Bits24}
-use Rattle.wave.specs.declared.sample.Put.{Put}
-use Rattle.wave.specs.declared.sample.Put.the-variants.{Done}
-use Rattle.wave.specs.declared.sample.Sample.{Sample}
+use Rattle.samples.specs.Sample.{codeOf, numberOf, sampleIn, fromBytes, putChecks, toBytes, sampleAnswer, putAnswer}
+use Rattle.samples.specs.declared.format.Format.{Format}
+use Rattle.samples.specs.declared.format.Format.the-variants.{Bits16, Bits24}
+use Rattle.samples.specs.declared.single.Put.{Put}
+use Rattle.samples.specs.declared.single.Put.the-variants.{Done}
+use Rattle.samples.specs.declared.single.Sample.{Sample}
 use Rattle.wave.specs.declared.writer.Written as writer
-use Rattle.wave.proofs.ByTest.{cond-case}
 use Rattle.capi.specs.Encode.{halfway}
 use Rattle.capi.specs.Parts.{Returnable, Counted}
 
@@ -80,7 +80,7 @@ write-counted buffer rate size =
 pub put-counted : (z : ℤ) (buffer : List ℕ) → Counted (putAnswer (toBytes z buffer .result))
 unfolding toBytes
 put-counted z buffer =
-    every buffer (little 3 (codeOf z)) (Done 3) (λ (r : Put). Counted (putAnswer r)) (putChecks z buffer) (search eaching depth 12)
+    every buffer (row lowest 3 (codeOf z)) (Done 3) (λ (r : Put). Counted (putAnswer r)) (putChecks z buffer) (search eaching depth 12)
 
 -- a number that is not far below zero is no refusal's code
 not-far : (x : Diff) → x .n ≤ 2 ^ 62 + x .p → ltZ (x .z) halfway ≡ false
@@ -93,11 +93,11 @@ not-far x h = by (x .z) (omega (arith, x .same, about (x .z)))
 sample-near : (f : Format) (s : List ℕ) → ltZ (sampleIn f s) halfway ≡ false
 unfolding sampleIn numberOf
 sample-near Bits16 s =
-    let k : ℕ = number s in
+    let k : ℕ = numberIn lowest s in
     cond-case (λ (z : ℤ). ltZ (z *ℤ pos 256) halfway ≡ false) (pos k) (pos k -ℤ pos (2 ^ 16)) (ltb k (2 ^ 15))
     (λ _. not-far (lit k ⊗ lit 256) (omega arith)) (λ _. not-far ((lit k ⊖ lit (2 ^ 16)) ⊗ lit 256) (omega arith))
 sample-near Bits24 s =
-    let k : ℕ = number s in
+    let k : ℕ = numberIn lowest s in
     cond-case (λ (z : ℤ). ltZ z halfway ≡ false) (pos k) (pos k -ℤ pos (2 ^ 24)) (ltb k (2 ^ 23))
     (λ _. refl) (λ _. not-far (lit k ⊖ lit (2 ^ 24)) (omega arith))
 

@@ -3,6 +3,7 @@ use mathlib.Core.List.{List}
 use Prim.Native.Nat.{ℕ}
 use lib.ListN.{set}
 use Rattle.answers.specs.Answer.{Answer, accepted, refused}
+use Rattle.samples.specs.Format.{bitsOf}
 use Rattle.wave.specs.Walk.{Found}
 
 -- rule 12.7: what was found goes to the lent places; the answer is their number, 4
@@ -12,5 +13,5 @@ ofFound (refused number place) = refused number place
 
 -- rule 12.7: the places afterwards: each of the four is set, and a refusal leaves them as they were
 abbrev pub foundAfter : Answer Found → List ℕ → List ℕ
-foundAfter (accepted f) before = set (set (set (set before 0 (f .rate)) 1 (f .bits)) 2 (f .size)) 3 (f .start)
+foundAfter (accepted f) before = set (set (set (set before 0 (f .rate)) 1 (bitsOf (f .format))) 2 (f .size)) 3 (f .start)
 foundAfter (refused number place) before = before

@@ -4,7 +4,6 @@ use mathlib.Core.List.{List}
 use Prim.Native.Nat.{ℕ, zero, suc, _+_, _-_, _≤_}
 use native.Mathlib.Omega.{arith}
 use lib.ListN.{length, drop}
-use lib.Dec.{leb}
 use Rattle.fields.specs.Bytes.{Order}
 use Rattle.chunks.specs.Walk.{headerLength, sizeIn, next, Step, ends, on, visit, follow, walk}
 use Rattle.chunks.proofs.Alike.{Alike, alike-drop, field-alike}
@@ -23,7 +22,7 @@ module _ (order : Order) {Met Answer : Type 0} (cut : Answer) (step : List ℕ �
     there : {at place : ℕ} {met seen last : Met} → visit order cut step (drop at front) at met ≡ on seen →
         Comes front (next at (sizeIn order (drop at front))) seen place last → Comes front at met place last
 
-  comes-further : (front : List ℕ) (at place : ℕ) (met last : Met) → Comes front at met place last → at ≤ place
+  pub comes-further : (front : List ℕ) (at place : ℕ) (met last : Met) → Comes front at met place last → at ≤ place
   comes-further front at place met last here = omega arith
   comes-further front at place met last (there {seen = seen} e c) =
       omega (arith, next-further at (sizeIn order (drop at front)), comes-further front (next at (sizeIn order (drop at front))) place seen last c)

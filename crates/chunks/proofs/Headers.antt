@@ -1,6 +1,6 @@
 -- A chunk's header: whether it is in the front, the length that it states, and its bytes in a row. Assumes nothing.
 use mathlib.Core.Path.{_≡_, sym, ap, _∙_}
-use mathlib.Core.Bool.{false}
+use mathlib.Core.Bool.{Bool, true, false}
 use mathlib.Core.List.{List}
 use Prim.Native.Nat.{ℕ, _+_, _-_, _<_, _≤_}
 use native.Mathlib.Omega.{arith}
@@ -23,6 +23,14 @@ header-room n at l =
     by-test (leb headerLength (n - at))
     (λ t. t ∙ sym (le-leb (at + headerLength) n (omega (arith, leb-true headerLength (n - at) t))))
     (λ t. t ∙ sym (lt-leb (at + headerLength) n (omega (arith, leb-false headerLength (n - at) t))))
+
+-- what a reader's loop is told by the test
+module _ (n at : ℕ) (r : Bool) (is : r ≡ leb (at + headerLength) n) where
+  pub header-there : r ≡ true → at + headerLength ≤ n
+  header-there t = leb-true (at + headerLength) n (sym is ∙ t)
+
+  pub header-gone : r ≡ false → n < at + headerLength
+  header-gone t = leb-false (at + headerLength) n (sym is ∙ t)
 
 -- ---- the length, read at its place in the front
 

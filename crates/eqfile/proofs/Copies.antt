@@ -6,7 +6,7 @@ use native.Mathlib.Numerals.{add-one}
 use native.Mathlib.Omega.{arith}
 use lib.ListN.{length, getD, take, drop, set, length-set, length-take, length-drop}
 use lib.Seq.{take-suc, take-suc-set, take-all, length-take-le}
-use Rattle.eqfile.specs.Data.{carryOf}
+use Rattle.eqfile.specs.Front.{carryOf}
 
 -- i bytes are copied
 pub record Copying (from old new : List ℕ) (i : ℕ) : Type 0 where

@@ -5,16 +5,7 @@ pub mod StartOrder
 pub mod Turns
 pub mod Copies
 pub mod WholeSamples
+pub mod Outputs
 pub mod OneBlock
-pub mod Written
 pub mod AllArguments
-pub mod NeverMore
 pub mod OneAnswer
-pub mod SamplesInPieces
-pub mod BlockCalls
-pub mod InRange
-pub mod NeverRefused
-pub mod AllowedGains
-pub mod Program
-pub mod AllAsked
-pub mod GivenBack

@@ -6,12 +6,11 @@ use Prim.Native.Nat.{ℕ}
 use lib.Dec.{eqb}
 use Rattle.answers.specs.Answer.{Answer, accepted, refused}
 use Rattle.answers.proofs.Laws.{one-case}
-use Rattle.wave.specs.declared.format.Format.the-variants.{Bits16, Bits24}
 use Rattle.eqfile.specs.declared.taking.Arguments.{Arguments}
-use Rattle.eqfile.specs.declared.order.Refusal.{Refusal}
-use Rattle.eqfile.specs.declared.order.Refusal.the-variants as refusal
-use Rattle.eqfile.specs.declared.order.Start.{Start}
-use Rattle.eqfile.specs.declared.order.Start.the-variants as start
+use Rattle.eqfile.specs.declared.refusal.Refusal.{Refusal}
+use Rattle.eqfile.specs.declared.refusal.Refusal.the-variants as refusal
+use Rattle.eqfile.specs.declared.start.Start.{Start}
+use Rattle.eqfile.specs.declared.start.Start.the-variants as start
 use Rattle.eqfile.specs.Start.{Plan, numberOf, startOf, startAnswer}
 
 -- ---- the way back
@@ -22,7 +21,7 @@ refusalBack n =
     (cond (eqb n 25) refusal.PartSample (cond (eqb n 26) refusal.TooLong refusal.Arguments)))))
 
 startBack : Answer Plan → Start
-startBack (accepted p) = start.Run (p .rate) (cond (eqb (p .bits) 16) Bits16 Bits24) (p .samples) (p .start)
+startBack (accepted p) = start.Run (p .rate) (p .format) (p .samples) (p .start)
 startBack (refused n p) = start.Refused (refusalBack n)
 
 refusal-way : (r : Refusal) → refusalBack (numberOf r) ≡ r
@@ -37,8 +36,7 @@ refusal-way refusal.TooLong = refl
 
 start-way : (r : Start) → startBack (startAnswer r) ≡ r
 unfolding startBack
-start-way (start.Run rate Bits16 samples at) = refl
-start-way (start.Run rate Bits24 samples at) = refl
+start-way (start.Run rate format samples at) = refl
 start-way (start.Refused r) = ap start.Refused (refusal-way r)
 
 -- ---- one answer

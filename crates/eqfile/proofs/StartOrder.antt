@@ -8,10 +8,9 @@ use native.Mathlib.Omega.{arith}
 use borrow.Author.Tests.{lt-ltb, le-ltb, ltb-false, eq-eqb, ne-eqb}
 use Rattle.answers.specs.Answer.{Answer, accepted, refused}
 use Rattle.answers.specs.Unit.{largestData}
-use Rattle.wave.specs.Values.{sizeOf}
-use Rattle.wave.specs.Values.{bitsOf, blockSize}
+use Rattle.samples.specs.Format.{sizeOf}
 use Rattle.wave.specs.Walk.{Found, readOf, readAnswer}
-use Rattle.wave.specs.declared.format.Format.{Format}
+use Rattle.samples.specs.declared.format.Format.{Format}
 use Rattle.wave.specs.declared.reader.Reading.the-variants.{Accepted}
 use Rattle.eqfile.specs.declared.taking.Arguments.{Arguments}
 use Rattle.eqfile.specs.declared.taking.Arguments.the-variants as arguments
@@ -28,7 +27,7 @@ module _ (rate : ℕ) (format : Format) (size start block : ℕ) (is : block ≡
   too-long h = rw (lt-ltb largestData (3 * (size / sizeOf format)) (rw is at h))
 
   pub to-be-written : 3 * (size / block) ≤ largestData →
-      accepted (record { rate = rate; bits = bitsOf format; samples = size / block; start = start }) ≡ planOf (readAnswer (Accepted rate format size start))
+      accepted (record { rate = rate; format = format; samples = size / block; start = start }) ≡ planOf (readAnswer (Accepted rate format size start))
   unfolding planOf
   to-be-written h = rw (is, le-ltb largestData (3 * (size / sizeOf format)) (rw is at h))
 
@@ -50,12 +49,12 @@ Writable (accepted p) = 3 * p .samples ≤ largestData
 Writable (refused k p) = Unit {0}
 
 writable-plan : (f : Found) → Writable (planFor f)
-writable-plan f = by (ltb largestData (3 * (f .size / blockSize (f .bits)))) refl
+writable-plan f = by (ltb largestData (3 * (f .size / sizeOf (f .format)))) refl
   where
-    by : (b : Bool) → ltb largestData (3 * (f .size / blockSize (f .bits))) ≡ b →
-        Writable (cond b (refused 26 0) (accepted (record { rate = f .rate; bits = f .bits; samples = f .size / blockSize (f .bits); start = f .start })))
+    by : (b : Bool) → ltb largestData (3 * (f .size / sizeOf (f .format))) ≡ b →
+        Writable (cond b (refused 26 0) (accepted (record { rate = f .rate; format = f .format; samples = f .size / sizeOf (f .format); start = f .start })))
     by true e = tt
-    by false e = let h = ltb-false largestData (3 * (f .size / blockSize (f .bits))) e in omega arith
+    by false e = let h = ltb-false largestData (3 * (f .size / sizeOf (f .format))) e in omega arith
 
 writable-read : (a : Answer Found) → Writable (planOf a)
 unfolding planOf

@@ -6,13 +6,13 @@ use native.Mathlib.Nat.{mul-le-mul-right, mul-le-mul-left}
 use native.Mathlib.Omega.{arith}
 use mir.Val.{Fits}
 use mir.Syntax.{w64}
-use Rattle.wave.specs.Values.{sizeOf}
-use Rattle.wave.specs.declared.format.Format.{Format}
-use Rattle.wave.specs.declared.format.Format.the-variants.{Bits16, Bits24}
+use Rattle.samples.specs.Format.{sizeOf}
+use Rattle.samples.specs.declared.format.Format.{Format}
+use Rattle.samples.specs.declared.format.Format.the-variants.{Bits16, Bits24}
 use Rattle.answers.specs.Unit.{blockLimit}
 use Rattle.tree.specs.Prototype.{published}
 use Rattle.tree.specs.Tree.{delay}
-use Rattle.eqfile.specs.declared.plan.Turn.{Turn}
+use Rattle.eqfile.specs.declared.turn.Turn.{Turn}
 use Rattle.eqfile.specs.Arguments.{bands}
 use Rattle.eqfile.specs.Turn.{late, fedInAll, allRead, wantedOf, turnOf}
 

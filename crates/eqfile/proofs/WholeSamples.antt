@@ -10,12 +10,12 @@ use lib.Seq.{take-nil, take-at, drop-at, take-take, length-take-le}
 use lib.IntN.{ℤ, pos}
 use borrow.Rule.Slice.PartMut.{putMid}
 use Rattle.answers.specs.Checks.{Done, decide}
-use Rattle.wave.specs.Samples.{samplesOf, blockFrom}
-use Rattle.wave.specs.Values.{sizeOf}
-use Rattle.wave.specs.Sample.{sampleIn}
-use Rattle.wave.specs.declared.format.Format.{Format}
-use Rattle.wave.specs.declared.samples.Taken.{Taken}
-use Rattle.wave.proofs.Taking.{length-samples}
+use Rattle.samples.specs.Samples.{samplesOf, blockFrom}
+use Rattle.samples.specs.Format.{sizeOf}
+use Rattle.samples.specs.Sample.{sampleIn}
+use Rattle.samples.specs.declared.format.Format.{Format}
+use Rattle.samples.specs.declared.block.Taken.{Taken}
+use Rattle.samples.proofs.Taking.{length-samples}
 use Rattle.eqfile.specs.Data.{samplesFrom}
 use Rattle.eqfile.proofs.Turns.{few-bytes}
 

@@ -1,15 +1,11 @@
 -- Bytes to samples: if data ends early, each sample that is not wholly there is 0.
 use mathlib.Core.List.{List, _++_}
 use Prim.Native.Nat.{ℕ, _-_, _/_, min}
-use lib.ListN.{length, take, drop, replicate}
+use lib.ListN.{length, replicate}
 use lib.IntN.{ℤ, pos}
-use Rattle.wave.specs.Samples.{samplesOf}
-use Rattle.wave.specs.Values.{sizeOf}
-use Rattle.wave.specs.declared.format.Format.{Format}
-
--- rule 10.11: how many data bytes the front holds from a place on that go into a block's bytes, and those bytes afterwards
-unfoldable pub carryOf : List ℕ → ℕ → List ℕ → ℕ × List ℕ
-carryOf front from bytes = let n = min (length front - from) (length bytes) in (n, take n (drop from front) ++ drop n bytes)
+use Rattle.samples.specs.Samples.{samplesOf}
+use Rattle.samples.specs.Format.{sizeOf}
+use Rattle.samples.specs.declared.format.Format.{Format}
 
 -- rule 10.12: n samples: those whose bytes are all there, and zeros
 unfoldable pub samplesFrom : ℕ → Format → List ℕ → List ℤ

@@ -2,6 +2,6 @@ pub mod Argument
 pub mod Arguments
 pub mod Start
 pub mod Turn
+pub mod Front
 pub mod Data
 pub mod Equalise
-pub mod Program

@@ -5,20 +5,21 @@ use Prim.Native.Nat.{ℕ, _*_, _/_}
 use lib.Dec.{eqb, ltb}
 use Rattle.answers.specs.Answer.{Answer, accepted, refused}
 use Rattle.answers.specs.Unit.{largestData}
-use Rattle.wave.specs.Values.{bitsOf, blockSize}
+use Rattle.samples.specs.Format.{sizeOf}
+use Rattle.samples.specs.declared.format.Format.{Format}
 use Rattle.wave.specs.Walk.{Found, readOf}
 use Rattle.eqfile.specs.declared.taking.Arguments.{Arguments}
 use Rattle.eqfile.specs.declared.taking.Arguments.the-variants as arguments
 use Rattle.eqfile.specs.Arguments.{bands}
-use Rattle.eqfile.specs.declared.order.Refusal.{Refusal}
-use Rattle.eqfile.specs.declared.order.Refusal.the-variants as refusal
-use Rattle.eqfile.specs.declared.order.Start.{Start}
-use Rattle.eqfile.specs.declared.order.Start.the-variants.{Run, Refused}
+use Rattle.eqfile.specs.declared.refusal.Refusal.{Refusal}
+use Rattle.eqfile.specs.declared.refusal.Refusal.the-variants as refusal
+use Rattle.eqfile.specs.declared.start.Start.{Start}
+use Rattle.eqfile.specs.declared.start.Start.the-variants.{Run, Refused}
 
--- rule 10.6: a run: rate and bits of the file, its number of samples, and where their bytes start
+-- rule 10.6: a run: rate and format of the file, its number of samples, and where their bytes start
 pub record Plan : Type 0 where
   pub rate : ℕ
-  pub bits : ℕ
+  pub format : Format
   pub samples : ℕ
   pub start : ℕ
 
@@ -35,9 +36,9 @@ numberOf refusal.TooLong = 26
 -- rule 10.6: the samples in the data, if a header can state the bytes that they are written in
 abbrev pub planFor : Found → Answer Plan
 planFor f =
-    let samples = f .size / blockSize (f .bits) in
+    let samples = f .size / sizeOf (f .format) in
     cond (ltb largestData (3 * samples)) (refused 26 0)
-    (accepted (record { rate = f .rate; bits = f .bits; samples = samples; start = f .start }))
+    (accepted (record { rate = f .rate; format = f .format; samples = samples; start = f .start }))
 
 -- rule 10.5: then the reader's; then 26
 unfoldable pub planOf : Answer Found → Answer Plan
@@ -52,5 +53,5 @@ startOf arguments.Refused front = refused 30 0
 
 -- in the rule book's numbers
 abbrev pub startAnswer : Start → Answer Plan
-startAnswer (Run rate format samples start) = accepted (record { rate = rate; bits = bitsOf format; samples = samples; start = start })
+startAnswer (Run rate format samples start) = accepted (record { rate = rate; format = format; samples = samples; start = start })
 startAnswer (Refused r) = refused (numberOf r) 0

@@ -3,7 +3,7 @@ use mathlib.Core.Bool.{Bool, cond}
 use Prim.Native.Nat.{ℕ, _+_, _-_, _*_, min}
 use lib.Dec.{eqb}
 use Rattle.answers.specs.Unit.{blockLimit}
-use Rattle.eqfile.specs.declared.plan.Turn.{Turn}
+use Rattle.eqfile.specs.declared.turn.Turn.{Turn}
 
 -- rule 10.9: the delay of the program's eight bands (proofs/Turns: `late-is-the-delay`)
 abbrev pub late : ℕ

@@ -1,39 +1,69 @@
-// One block: bytes to samples, through the equaliser, and back to bytes.
-use crate::data::samples_from;
+// One block: samples through the equaliser, and its outputs to bytes.
+use answers::unit::BLOCK_LIMIT;
+use octave::block::Blocked;
 use octave::block::block;
-use wave::Format;
-use wave::Stored;
 ghost use mathlib.Core.Path.{_≡_};
+ghost use lib.ListN.{replicate};
+ghost use lib.IntN.{pos};
 ghost use Rattle.answers.specs.Checks.{Done};
-ghost use Rattle.eqfile.specs.Equalise.{storedOf, equaliseOf};
+ghost use Rattle.answers.specs.Unit.{blockLimit};
+ghost use Rattle.eqfile.specs.Equalise.{Judged, equaliseOf};
 
-// The outputs but the first `skipped`, as bytes. Answers how many were stored.
-fn store(output: &[i32], skipped: usize, stored: &mut [u8]) -> usize
-    ensures { λ r. ⌜ (r, now (stored .exit)) ≡ storedOf (now (output .entry)) skipped (now (stored .entry)) ⌝ }
-{
-    if output.len() < skipped {
-        return 0;
-    }
-    let Stored::Bytes(n) = wave::samples_to_bytes(&output[skipped..], stored) else {
-        return 0;
-    };
-    n
+// What `equalise` answers.
+pub enum Equalised {
+    // The number of bytes stored.
+    Bytes(usize),
+    // A length is wrong, or the block call refused.
+    Refused,
 }
 
-// The first `skipped` outputs are dropped. Answers how many bytes were stored.
-pub fn equalise(
+// The outputs of the longest block, before its call.
+fn cleared() -> [i32; BLOCK_LIMIT]
+    ensures { λ r. ⌜ r ≡ replicate blockLimit (pos 0) ⌝ }
+{
+    [0; BLOCK_LIMIT]
+}
+
+// The block call, and the bytes of its outputs but the first `skipped`. The lengths have been judged.
+fn put(
     memory: &mut [i32],
     gains: &[i32],
-    format: Format,
-    bytes: &[u8],
-    input: &mut [i32],
+    input: &[i32],
     output: &mut [i32],
     skipped: usize,
     stored: &mut [u8],
-) -> usize
-    ensures { λ r. ⌜ Done (equaliseOf (now (memory .entry)) (now (gains .entry)) format (now (bytes .entry)) (now (input .entry)) (now (output .entry)) skipped (now (stored .entry))) r (record { memory = now (memory .exit); input = now (input .exit); output = now (output .exit); stored = now (stored .exit) }) ⌝ }
+) -> Equalised
+    requires { ⌜ Judged (now input) (now output) skipped (now stored) ⌝ }
+    ensures { λ r. ⌜ Done (equaliseOf (now (memory .entry)) (now (gains .entry)) (now (input .entry)) skipped (now (stored .entry))) r (now (memory .exit), now (stored .exit)) ⌝ }
 {
-    samples_from(bytes, format, input);
-    block(memory, gains, input, output);
-    store(output, skipped, stored)
+    let Blocked::Written(_) = block(memory, gains, input, output) else {
+        return Equalised::Refused;
+    };
+    samples::samples_to_bytes(&output[skipped..], stored);
+    Equalised::Bytes(stored.len())
+}
+
+// Equalises a block and stores its outputs but the first `skipped`, three bytes each. The lengths are judged first, so that a
+// refusal leaves the memory as it was.
+pub fn equalise(
+    memory: &mut [i32],
+    gains: &[i32],
+    input: &[i32],
+    skipped: usize,
+    stored: &mut [u8],
+) -> Equalised
+    ensures { λ r. ⌜ Done (equaliseOf (now (memory .entry)) (now (gains .entry)) (now (input .entry)) skipped (now (stored .entry))) r (now (memory .exit), now (stored .exit)) ⌝ }
+{
+    let n = input.len();
+    if BLOCK_LIMIT < n {
+        return Equalised::Refused;
+    }
+    if n < skipped {
+        return Equalised::Refused;
+    }
+    if stored.len() != 3 * (n - skipped) {
+        return Equalised::Refused;
+    }
+    let mut output = cleared();
+    put(memory, gains, input, &mut output[..n], skipped, stored)
 }

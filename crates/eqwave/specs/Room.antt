@@ -4,7 +4,7 @@ use Prim.Native.Nat.{ℕ, _*_, _≤_}
 use lib.ListN.{length}
 use lib.IntN.{ℤ}
 use Rattle.answers.specs.Unit.{blockLimit}
-use Rattle.eqfile.specs.declared.plan.Turn.{Turn}
+use Rattle.eqfile.specs.declared.turn.Turn.{Turn}
 
 -- the samples of a buffer
 abbrev pub samplesLong : ℕ
@@ -15,8 +15,7 @@ abbrev pub bytesLong : ℕ
 bytesLong = 3 * blockLimit
 
 -- what a turn asks of its buffers
-pub record Room (turn : Turn) (got : ℕ) (bytes : List ℕ) (input output : List ℤ) (stored : List ℕ) : Type 0 where
+pub record Room (turn : Turn) (got : ℕ) (bytes : List ℕ) (input : List ℤ) (stored : List ℕ) : Type 0 where
   pub got-there : got ≤ length bytes
   pub input-room : turn .fed ≤ length input
-  pub output-room : turn .fed ≤ length output
   pub stored-room : turn .written ≤ length stored

@@ -2,7 +2,7 @@
 use crate::buffers;
 use crate::say;
 use eqfile::Turn;
-use wave::Format;
+use samples::Format;
 ghost use Prim.Native.Nat.{_*_, _≤_};
 ghost use lib.ListN.{length};
 ghost use Rattle.answers.specs.Unit.{largestData};
@@ -17,7 +17,7 @@ fn fetch(front: &[u8], from: usize, wanted: usize, bytes: &mut [u8]) -> usize
     had + io::read_full(libc::STDIN_FILENO, &mut bytes[had..wanted])
 }
 
-// Equalises the block of a turn and writes it. Answers whether standard output took it. The last three are buffers, lent so that no
+// Equalises the block of a turn and writes it. Answers whether standard output took it. The last two are buffers, lent so that no
 // block clears them.
 fn put(
     format: Format,
@@ -27,24 +27,21 @@ fn put(
     gains: &[i32],
     memory: &mut [i32],
     input: &mut [i32],
-    output: &mut [i32],
     stored: &mut [u8],
 ) -> bool
-    requires { ⌜ Room turn got (now bytes) (now input) (now output) (now stored) ⌝ }
+    requires { ⌜ Room turn got (now bytes) (now input) (now stored) ⌝ }
 {
     let fed = turn.fed;
     let written = turn.written;
-    let n = eqfile::equalise(
+    eqfile::samples_from(&bytes[..got], format, &mut input[..fed]);
+    eqfile::equalise(
         memory,
         gains,
-        format,
-        &bytes[..got],
-        &mut input[..fed],
-        &mut output[..fed],
+        &input[..fed],
         turn.skipped,
         &mut stored[..written],
     );
-    io::write_all(libc::STDOUT_FILENO, &stored[..n])
+    io::write_all(libc::STDOUT_FILENO, &stored[..written])
 }
 
 // Every block, and then what is missing. It stops where standard output takes no more.
@@ -58,7 +55,6 @@ fn blocks(
 ) {
     let mut bytes = buffers::bytes();
     let mut input = buffers::samples();
-    let mut output = buffers::samples();
     let mut stored = buffers::bytes();
     let mut from = start;
     let mut read = 0;
@@ -75,7 +71,6 @@ fn blocks(
             gains,
             memory,
             &mut input,
-            &mut output,
             &mut stored,
         ) {
             say::output_failed();

@@ -1,83 +1,68 @@
 -- The header writer: rows stored one behind the other are the header. Assumes nothing.
-use mathlib.Core.Path.{_≡_, refl, sym, ap, _∙_, subst}
-use mathlib.Core.Bool.{Bool, true, _||_}
+use mathlib.Core.Path.{_≡_, refl, sym, ap, _∙_}
 use mathlib.Core.List.{List, _++_}
-use Prim.Native.Nat.{ℕ, _+_, _*_, _≤_}
+use Prim.Native.Nat.{ℕ, _+_, _*_}
 use native.Mathlib.Omega.{arith}
-use lib.ListN.{length, length-append}
+use lib.ListN.{length}
 use lib.Seq.{sets}
-use lib.Dec.{eqb}
-use borrow.Author.Tests.{eqb-true}
-use Rattle.wave.specs.Bytes.{little}
+use Rattle.fields.specs.Bytes.{lowest, little, ordered, row}
+use Rattle.fields.proofs.Rows.{length-row, behind, sets-whole}
+use Rattle.chunks.specs.Walk.{chunkHeader}
+use Rattle.chunks.proofs.Headers as chunks
+use Rattle.samples.specs.Format.{bitsOf}
 use Rattle.wave.specs.Names.{riff, wave, fmt, data′}
-use Rattle.wave.specs.Values.{knownRate}
-use Rattle.wave.specs.Header.{chunkHeader, fmtContents, header}
-use Rattle.wave.proofs.ByTest.{by-test}
-use Rattle.wave.proofs.Little.{length-little, behind, sets-whole}
+use Rattle.wave.specs.Values.{fmtLength, channels, frameSize}
+use Rattle.wave.specs.Header.{written, headerBytes, riffSize, fmtContents, header}
+use Rattle.wave.specs.Private.{fmtSizes}
+
+-- ---- lengths
+
+pub length-fmt : (rate : ℕ) → length (fmtContents rate) ≡ fmtLength
+unfolding fmtContents row ordered little
+length-fmt rate = refl
+
+pub length-header : (rate size : ℕ) → length (header rate size) ≡ headerBytes
+unfolding header chunkHeader fmtContents row ordered little
+length-header rate size = refl
 
 -- ---- rows
 
-pub length-chunk : (name : List ℕ) (size : ℕ) → length name ≡ 4 → length (chunkHeader name size) ≡ 8
-unfolding chunkHeader
-length-chunk name size four =
-    let l : length (little 4 size) ≡ 4 = length-little 4 size in
-    length-append name (little 4 size) ∙ omega arith
+-- a number stored before a row; the row stands at `at + (k + j)`
+number-row : (l m n ys : List ℕ) (at k j x : ℕ) → m ≡ sets l (at + k) (row lowest j x) → n ≡ sets m (at + (k + j)) ys →
+    n ≡ sets l (at + k) (row lowest j x ++ ys)
+number-row l m n ys at k j x d e =
+    let place : at + (k + j) ≡ at + k + j = omega arith in
+    behind l m n (row lowest j x) ys (at + k) j (length-row lowest j x) d (e ∙ ap (λ (i : ℕ). sets m i ys) place)
 
-pub length-fmt : (rate : ℕ) → length (fmtContents rate) ≡ 16
-unfolding fmtContents little
-length-fmt rate = refl
+pub sizes-row : (rate at frame bits : ℕ) (l m₁ m₂ m₃ : List ℕ) → frame ≡ frameSize written → bits ≡ bitsOf written →
+    m₁ ≡ sets l at (row lowest 4 (rate * frame)) → m₂ ≡ sets m₁ (at + 4) (row lowest 2 frame) → m₃ ≡ sets m₂ (at + 6) (row lowest 2 bits) →
+    m₃ ≡ sets l at (fmtSizes rate)
+sizes-row rate at frame bits l m₁ m₂ m₃ f b e₁ e₂ e₃ =
+    behind l m₁ m₃ (row lowest 4 (rate * frame)) (row lowest 2 frame ++ row lowest 2 bits) at 4 (length-row lowest 4 (rate * frame)) e₁
+    (number-row m₁ m₂ m₃ (row lowest 2 bits) at 4 2 frame e₂ e₃)
+    ∙ rw (f, b)
 
-pub length-header : (rate size : ℕ) → length (header rate size) ≡ 44
-unfolding header chunkHeader fmtContents little
-length-header rate size = refl
-
-pub chunk-row : (l m n name : List ℕ) (at size : ℕ) → length name ≡ 4 →
-    m ≡ sets l at name → n ≡ sets m (at + 4) (little 4 size) →
-    n ≡ sets l at (chunkHeader name size)
-unfolding chunkHeader
-chunk-row l m n name at size four e₁ e₂ = behind l m n name (little 4 size) at 4 four e₁ e₂
-
-pub fmt-row : (rate at : ℕ) (l m₁ m₂ m₃ m₄ m₅ m₆ : List ℕ) →
-    m₁ ≡ sets l at (little 2 1) → m₂ ≡ sets m₁ (at + 2) (little 2 1) → m₃ ≡ sets m₂ (at + 4) (little 4 rate) →
-    m₄ ≡ sets m₃ (at + 8) (little 4 (rate * 3)) → m₅ ≡ sets m₄ (at + 12) (little 2 3) → m₆ ≡ sets m₅ (at + 14) (little 2 24) →
-    m₆ ≡ sets l at (fmtContents rate)
+pub fmt-row : (rate at : ℕ) (l m₁ m₂ m₃ m₄ : List ℕ) →
+    m₁ ≡ sets l at (row lowest 2 1) → m₂ ≡ sets m₁ (at + 2) (row lowest 2 channels) → m₃ ≡ sets m₂ (at + 4) (row lowest 4 rate) →
+    m₄ ≡ sets m₃ (at + 8) (fmtSizes rate) → m₄ ≡ sets l at (fmtContents rate)
 unfolding fmtContents
-fmt-row rate at l m₁ m₂ m₃ m₄ m₅ m₆ e₁ e₂ e₃ e₄ e₅ e₆ =
-    let t₅ = little 2 3 ++ little 2 24 in
-    let t₄ = little 4 (rate * 3) ++ t₅ in
-    let t₃ = little 4 rate ++ t₄ in
-    let t₂ = little 2 1 ++ t₃ in
-    let f₅ : m₆ ≡ sets m₄ (at + 12) t₅ = behind m₄ m₅ m₆ (little 2 3) (little 2 24) (at + 12) 2 (length-little 2 3) e₅ (shift 12 2 m₅ m₆ (little 2 24) e₆) in
-    let f₄ : m₆ ≡ sets m₃ (at + 8) t₄ = behind m₃ m₄ m₆ (little 4 (rate * 3)) t₅ (at + 8) 4 (length-little 4 (rate * 3)) e₄ (shift 8 4 m₄ m₆ t₅ f₅) in
-    let f₃ : m₆ ≡ sets m₂ (at + 4) t₃ = behind m₂ m₃ m₆ (little 4 rate) t₄ (at + 4) 4 (length-little 4 rate) e₃ (shift 4 4 m₃ m₆ t₄ f₄) in
-    let f₂ : m₆ ≡ sets m₁ (at + 2) t₂ = behind m₁ m₂ m₆ (little 2 1) t₃ (at + 2) 2 (length-little 2 1) e₂ (shift 2 2 m₂ m₆ t₃ f₃) in
-    behind l m₁ m₆ (little 2 1) t₂ at 2 (length-little 2 1) e₁ f₂
-  where
-    -- at + (k + j) as (at + k) + j
-    shift : (k j : ℕ) (m n ys : List ℕ) → n ≡ sets m (at + (k + j)) ys → n ≡ sets m (at + k + j) ys
-    shift k j m n ys e = e ∙ ap (λ (i : ℕ). sets m i ys) (omega arith)
+fmt-row rate at l m₁ m₂ m₃ m₄ e₁ e₂ e₃ e₄ =
+    let t₂ = row lowest 4 rate ++ fmtSizes rate in
+    behind l m₁ m₄ (row lowest 2 1) (row lowest 2 channels ++ t₂) at 2 (length-row lowest 2 1) e₁
+    (number-row m₁ m₂ m₄ t₂ at 2 2 channels e₂ (number-row m₂ m₃ m₄ (fmtSizes rate) at 4 4 rate e₃ e₄))
 
-pub header-row : (rate size : ℕ) (l m₁ m₂ m₃ m₄ m₅ : List ℕ) → length l ≡ 44 →
-    m₁ ≡ sets l 0 (chunkHeader riff (size + 36)) → m₂ ≡ sets m₁ 8 wave → m₃ ≡ sets m₂ 12 (chunkHeader fmt 16) →
-    m₄ ≡ sets m₃ 20 (fmtContents rate) → m₅ ≡ sets m₄ 36 (chunkHeader data′ size) →
+pub header-row : (rate size : ℕ) (l m₁ m₂ m₃ m₄ m₅ : List ℕ) → length l ≡ headerBytes →
+    m₁ ≡ sets l 0 (chunkHeader lowest riff (riffSize size)) → m₂ ≡ sets m₁ 8 wave → m₃ ≡ sets m₂ 12 (chunkHeader lowest fmt fmtLength) →
+    m₄ ≡ sets m₃ 20 (fmtContents rate) → m₅ ≡ sets m₄ 36 (chunkHeader lowest data′ size) →
     m₅ ≡ header rate size
 unfolding header
 header-row rate size l m₁ m₂ m₃ m₄ m₅ whole e₁ e₂ e₃ e₄ e₅ =
-    let t₄ = fmtContents rate ++ chunkHeader data′ size in
-    let t₃ = chunkHeader fmt 16 ++ t₄ in
+    let t₄ = fmtContents rate ++ chunkHeader lowest data′ size in
+    let t₃ = chunkHeader lowest fmt fmtLength ++ t₄ in
     let t₂ = wave ++ t₃ in
-    let f₄ : m₅ ≡ sets m₃ 20 t₄ = behind m₃ m₄ m₅ (fmtContents rate) (chunkHeader data′ size) 20 16 (length-fmt rate) e₄ e₅ in
-    let f₃ : m₅ ≡ sets m₂ 12 t₃ = behind m₂ m₃ m₅ (chunkHeader fmt 16) t₄ 12 8 (length-chunk fmt 16 refl) e₃ f₄ in
-    let f₂ : m₅ ≡ sets m₁ 8 t₂ = behind m₁ m₂ m₅ wave t₃ 8 4 refl e₂ f₃ in
-    let f₁ : m₅ ≡ sets l 0 (header rate size) = behind l m₁ m₅ (chunkHeader riff (size + 36)) t₂ 0 8 (length-chunk riff (size + 36) refl) e₁ f₂ in
+    let f₄ = behind m₃ m₄ m₅ (fmtContents rate) (chunkHeader lowest data′ size) 20 16 (length-fmt rate) e₄ e₅ in
+    let f₃ = behind m₂ m₃ m₅ (chunkHeader lowest fmt fmtLength) t₄ 12 8 (chunks.length-header lowest fmt fmtLength refl) e₃ f₄ in
+    let f₂ = behind m₁ m₂ m₅ wave t₃ 8 4 refl e₂ f₃ in
+    let f₁ : m₅ ≡ sets l 0 (header rate size) =
+    behind l m₁ m₅ (chunkHeader lowest riff (riffSize size)) t₂ 0 8 (chunks.length-header lowest riff (riffSize size) refl) e₁ f₂ in
     f₁ ∙ sets-whole l (header rate size) (length-header rate size ∙ sym whole)
-
--- ---- the rate
-
--- neither rate is above 48,000
-pub rate-small : (rate : ℕ) → knownRate rate ≡ true → rate ≤ 48000
-unfolding knownRate
-rate-small rate h =
-    by-test (eqb rate 44100)
-    (λ t. omega (arith, eqb-true rate 44100 t))
-    (λ t. omega (arith, eqb-true rate 48000 (subst (λ (b : Bool). (b || eqb rate 48000) ≡ true) t h)))

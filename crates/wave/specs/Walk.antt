@@ -1,99 +1,101 @@
--- The header reader: its walk over the chunks of the front.
-use Prim.Native.Nat.{ℕ, zero, suc, _+_, _%_}
+-- The header reader: what each chunk of the front comes to, and the checks around the walk.
+use Prim.Native.Nat.{ℕ, _+_, _%_}
 use mathlib.Core.Bool.{_&&_, cond}
 use mathlib.Core.List.{List}
 use lib.ListN.{length, take, drop}
 use lib.Dec.{eqb, leb}
 use Rattle.answers.specs.Answer.{Answer, accepted, refused}
 use Rattle.answers.specs.Unit.{frontLength}
-use Rattle.wave.specs.Bytes.{field, same}
+use Rattle.fields.specs.Bytes.{lowest, field, same}
+use Rattle.chunks.specs.Walk.{headerLength, sizeIn, named, contained, Step, ends, on, walk}
+use Rattle.samples.specs.declared.format.Format.{Format}
 use Rattle.wave.specs.Names.{riff, wave, fmt, data′}
-use Rattle.wave.specs.Values.{bitsOf, blockSize, right}
+use Rattle.wave.specs.Values.{fmtLength, frameSize, codingOf, right}
+use Rattle.wave.specs.declared.values.Coding.{Coding}
+use Rattle.wave.specs.declared.values.Coding.the-variants.{Known, Unknown}
+use Rattle.wave.specs.declared.finder.Finding.{Finding}
+use Rattle.wave.specs.declared.finder.Finding.the-variants as finding
 use Rattle.wave.specs.declared.reader.Reading.{Reading}
 use Rattle.wave.specs.declared.reader.Reading.the-variants.{Accepted, NotWave, NoFormat, WrongFormat, CutOff, PartSample}
 
--- rule 8.12: an accepted reading; `size` is the length of `data` in bytes
+-- rule 8.12: what is found: `size` is the length of `data` in bytes, and its contents start at `start`
 pub record Found : Type 0 where
   pub rate : ℕ
-  pub bits : ℕ
+  pub format : Format
   pub size : ℕ
   pub start : ℕ
 
--- rule 8.6: the `fmt ` before a chunk: none, or its rate and bits
+-- rule 8.6: the `fmt ` before a chunk: none, or its rate and format
 pub data Seen : Type 0 where
   nothing : Seen
-  sound : ℕ → ℕ → Seen
-
--- rule 8.4: what a chunk comes to: the answer, or the place of the next chunk and the `fmt ` so far
-pub data Step : Type 0 where
-  ends : Answer Found → Step
-  on : ℕ → Seen → Step
-
--- rule 8.4: the next chunk starts right after the contents
-unfoldable pub next : ℕ → ℕ → ℕ
-next at size = at + 8 + size
+  sound : ℕ → Format → Seen
 
 -- rule 8.6: a second `fmt ` is 23
-unfoldable pub first : Seen → Step → Step
+unfoldable pub first : Seen → Step Seen (Answer Found) → Step Seen (Answer Found)
 first nothing step = step
-first (sound rate bits) step = ends (refused 23 0)
+first (sound rate format) step = ends (refused 23 0)
 
--- rules 8.6, 8.7: a wrong value is 23; else the walk goes on with the rate and the bits
-unfoldable pub values : List ℕ → ℕ → Step
-values rest at =
-    cond (right (field rest 8 2) (field rest 10 2) (field rest 12 4) (field rest 16 4) (field rest 20 2) (field rest 22 2))
-    (on (next at 16) (sound (field rest 12 4) (field rest 22 2)))
+-- rule 8.8: the values beside the format are judged with it
+unfoldable pub judged : Coding → (count rate byteRate block : ℕ) → Step Seen (Answer Found)
+judged (Known format) count rate byteRate block = cond (right format count rate byteRate block) (on (sound rate format)) (ends (refused 23 0))
+judged Unknown count rate byteRate block = ends (refused 23 0)
+
+-- rule 8.7: where the values of a `fmt ` stand, `rest` the front from it on
+unfoldable pub values : List ℕ → Step Seen (Answer Found)
+values rest =
+    judged (codingOf (field lowest rest 8 2) (field lowest rest 22 2))
+    (field lowest rest 10 2) (field lowest rest 12 4) (field lowest rest 16 4) (field lowest rest 20 2)
+
+-- rule 8.6: a `fmt ` chunk: its length, then whether it is all there, then whether it is the first, then its values
+unfoldable pub fmtChunk : List ℕ → Seen → Step Seen (Answer Found)
+fmtChunk rest seen =
+    cond (eqb (sizeIn lowest rest) fmtLength)
+    (cond (contained lowest rest) (first seen (values rest)) (ends (refused 24 0)))
     (ends (refused 23 0))
 
--- rule 8.6: a `fmt ` chunk, `rest` the front from it on
-unfoldable pub fmtChunk : List ℕ → ℕ → Seen → Step
-fmtChunk rest at seen =
-    cond (eqb (field rest 4 4) 16)
-    (cond (leb 24 (length rest)) (first seen (values rest at))
-    (ends (refused 24 0)))
-    (ends (refused 23 0))
-
--- rule 8.10: a `data` chunk of `size` bytes
-unfoldable pub dataChunk : ℕ → ℕ → Seen → Answer Found
+-- rule 8.10: a `data` chunk at a place ends the walk
+unfoldable pub dataChunk : (size at : ℕ) → Seen → Answer Found
 dataChunk size at nothing = refused 22 0
-dataChunk size at (sound rate bits) =
-    cond (eqb (size % blockSize bits) 0)
-    (accepted (record { rate = rate; bits = bits; size = size; start = at + 8 }))
-    (refused 25 0)
+dataChunk size at (sound rate format) = accepted (record { rate = rate; format = format; size = size; start = at + headerLength })
 
--- rules 8.5, 8.11: any chunk, `rest` the front from it on
-unfoldable pub chunk : List ℕ → ℕ → Seen → Step
+-- rules 8.6, 8.10, 8.11: any chunk whose header is in the front
+unfoldable pub chunk : List ℕ → ℕ → Seen → Step Seen (Answer Found)
 chunk rest at seen =
-    cond (leb 8 (length rest))
-    (cond (same (take 4 rest) fmt) (fmtChunk rest at seen)
-    (cond (same (take 4 rest) data′) (ends (dataChunk (field rest 4 4) at seen))
-    (on (next at (field rest 4 4)) seen)))
-    (ends (refused 24 0))
+    cond (named rest fmt) (fmtChunk rest seen)
+    (cond (named rest data′) (ends (dataChunk (sizeIn lowest rest) at seen))
+    (on seen))
 
--- rule 8.4: an answer ends the walk; else it goes on
-abbrev pub follow : (ℕ → Seen → Answer Found) → Step → Answer Found
-follow walk (ends answer) = answer
-follow walk (on at seen) = walk at seen
-
--- rules 8.4, 8.11: the walk from a chunk on, for a number of steps; a front has fewer chunks than bytes, so that as many steps as bytes are never spent
-unfoldable pub walk : ℕ → List ℕ → ℕ → Seen → Answer Found
-walk zero front at seen = refused 24 0
-walk (suc steps) front at seen = follow (walk steps front) (chunk (drop at front) at seen)
-
--- rules 8.3, 8.4: the names, then the walk from byte 12
-unfoldable pub judge : List ℕ → Answer Found
-judge front =
+-- rules 8.3, 8.4: the names, then the walk from byte 12 to the `data` chunk
+unfoldable pub find : List ℕ → Answer Found
+find front =
     cond (leb 12 (length front) && (same (take 4 front) riff && same (take 4 (drop 8 front)) wave))
-    (walk (length front) front 12 nothing)
+    (walk lowest (refused 24 0) chunk (length front) front 12 nothing)
     (refused 21 0)
 
--- rule 8.2: `read` judges the front alone
+-- rule 8.10: the length of `data` is whole frames
+unfoldable pub wholeFrames : Answer Found → Answer Found
+wholeFrames (accepted f) = cond (eqb (f .size % frameSize (f .format)) 0) (accepted f) (refused 25 0)
+wholeFrames (refused number place) = refused number place
+
+-- rule 8.2: `find` looks at the front alone
+unfoldable pub findOf : List ℕ → Answer Found
+findOf lent = find (take frontLength lent)
+
+-- rule 8.10: `read` finds the data, and then judges its length
 unfoldable pub readOf : List ℕ → Answer Found
-readOf lent = judge (take frontLength lent)
+readOf lent = wholeFrames (findOf lent)
+
+-- rule 6.8: numbers and values for `Finding`
+abbrev pub findAnswer : Finding → Answer Found
+findAnswer (finding.Data rate format size start) = accepted (record { rate = rate; format = format; size = size; start = start })
+findAnswer finding.NotWave = refused 21 0
+findAnswer finding.NoFormat = refused 22 0
+findAnswer finding.WrongFormat = refused 23 0
+findAnswer finding.CutOff = refused 24 0
 
 -- rule 6.8: numbers and values for `Reading`
 abbrev pub readAnswer : Reading → Answer Found
-readAnswer (Accepted rate format size start) = accepted (record { rate = rate; bits = bitsOf format; size = size; start = start })
+readAnswer (Accepted rate format size start) = accepted (record { rate = rate; format = format; size = size; start = start })
 readAnswer NotWave = refused 21 0
 readAnswer NoFormat = refused 22 0
 readAnswer WrongFormat = refused 23 0

@@ -1,15 +1,22 @@
 // One chunk of the reader's walk. `rest` is the front from the chunk on, and `at` the chunk's place in it.
-use crate::format::Format;
-use crate::format::bytes_each;
-use crate::format::right;
-use crate::get::four;
-use crate::get::named;
-use crate::get::two;
-use crate::reader::Reading;
+use crate::finder::Finding;
+use crate::values::Coding;
+use crate::values::FMT_LENGTH;
+use crate::values::coding_of;
+use crate::values::right;
+use chunks::lowest::contained;
+use chunks::lowest::size_in;
+use chunks::place::HEADER_LENGTH;
+use fields::lowest::four;
+use fields::lowest::two;
+use fields::names::named;
+use samples::Format;
 ghost use mathlib.Core.Path.{_≡_};
-ghost use Prim.Native.Nat.{_≤_, _<_, _^_};
+ghost use Prim.Native.Nat.{_+_, _≤_, _<_, _^_};
 ghost use lib.ListN.{length};
-ghost use Rattle.wave.specs.Walk.{next, values, fmtChunk, dataChunk, chunk, readAnswer};
+ghost use Rattle.chunks.specs.Walk.{headerLength};
+ghost use Rattle.wave.specs.Values.{fmtLength};
+ghost use Rattle.wave.specs.Walk.{judged, values, fmtChunk, dataChunk, chunk, findAnswer};
 ghost use Rattle.wave.specs.Private.{seenOf, stepOf};
 
 // The `fmt ` that the walk has met.
@@ -18,91 +25,80 @@ pub(crate) enum Seen {
     Sound(u32, Format),
 }
 
-// What a chunk comes to: the answer, or the next chunk's place.
+// What a chunk comes to: the answer, or on to the next chunk.
 pub(crate) enum Step {
-    Ends(Reading),
-    On(usize, Seen),
+    Ends(Finding),
+    On(Seen),
 }
 
-// Where the next chunk starts. In 64 bits no declared length wraps.
-fn next_chunk(at: usize, size: u32) -> usize
-    requires { ⌜ at < 2 ^ 63 ⌝ }
-    ensures { λ r. ⌜ r ≡ next at size ⌝ }
+fn judged(coding: Coding, count: u32, rate: u32, byterate: u32, block: u32) -> Step
+    ensures { λ r. ⌜ stepOf r ≡ judged coding count rate byterate block ⌝ }
 {
-    at + 8 + size as usize
+    match coding {
+        Coding::Known(format) => {
+            if right(format, count, rate, byterate, block) {
+                return Step::On(Seen::Sound(rate, format));
+            }
+            Step::Ends(Finding::WrongFormat)
+        }
+        Coding::Unknown => Step::Ends(Finding::WrongFormat),
+    }
 }
 
-fn format_values(rest: &[u8], at: usize) -> Step
-    requires { ⌜ (24 ≤ length (now rest)) × (at < 2 ^ 63) ⌝ }
-    ensures { λ r. ⌜ stepOf r ≡ values (now (rest .entry)) at ⌝ }
+fn format_values(rest: &[u8]) -> Step
+    requires { ⌜ headerLength + fmtLength ≤ length (now rest) ⌝ }
+    ensures { λ r. ⌜ stepOf r ≡ values (now (rest .entry)) ⌝ }
 {
-    let rate = four(rest, 12);
-    let bits = two(rest, 22);
-    if right(
-        two(rest, 8),
+    let coding = coding_of(two(rest, 8), two(rest, 22));
+    judged(
+        coding,
         two(rest, 10),
-        rate,
+        four(rest, 12),
         four(rest, 16),
         two(rest, 20),
-        bits,
-    ) {
-        if bits == 16 {
-            return Step::On(next_chunk(at, 16), Seen::Sound(rate, Format::Bits16));
-        }
-        return Step::On(next_chunk(at, 16), Seen::Sound(rate, Format::Bits24));
-    }
-    Step::Ends(Reading::WrongFormat)
+    )
 }
 
-fn format_chunk(rest: &[u8], at: usize, seen: Seen) -> Step
-    requires { ⌜ (8 ≤ length (now rest)) × (at < 2 ^ 63) ⌝ }
-    ensures { λ r. ⌜ stepOf r ≡ fmtChunk (now (rest .entry)) at (seenOf seen) ⌝ }
+fn format_chunk(rest: &[u8], seen: Seen) -> Step
+    requires { ⌜ headerLength ≤ length (now rest) ⌝ }
+    ensures { λ r. ⌜ stepOf r ≡ fmtChunk (now (rest .entry)) (seenOf seen) ⌝ }
 {
-    if four(rest, 4) != 16 {
-        return Step::Ends(Reading::WrongFormat);
+    if size_in(rest) != FMT_LENGTH {
+        return Step::Ends(Finding::WrongFormat);
     }
-    if rest.len() < 24 {
-        return Step::Ends(Reading::CutOff);
+    if !contained(rest) {
+        return Step::Ends(Finding::CutOff);
     }
     match seen {
-        Seen::Nothing => format_values(rest, at),
-        Seen::Sound(_, _) => Step::Ends(Reading::WrongFormat),
+        Seen::Nothing => format_values(rest),
+        Seen::Sound(_, _) => Step::Ends(Finding::WrongFormat),
     }
 }
 
-fn data_chunk(size: u32, at: usize, seen: Seen) -> Reading
+fn data_chunk(size: u32, at: usize, seen: Seen) -> Finding
     requires { ⌜ at < 2 ^ 63 ⌝ }
-    ensures { λ r. ⌜ readAnswer r ≡ dataChunk size at (seenOf seen) ⌝ }
+    ensures { λ r. ⌜ findAnswer r ≡ dataChunk size at (seenOf seen) ⌝ }
 {
     match seen {
-        Seen::Nothing => Reading::NoFormat,
-        Seen::Sound(rate, format) => {
-            if size % bytes_each(format) != 0 {
-                return Reading::PartSample;
-            }
-            Reading::Accepted {
-                rate,
-                format,
-                length: size,
-                start: at + 8,
-            }
-        }
+        Seen::Nothing => Finding::NoFormat,
+        Seen::Sound(rate, format) => Finding::Data {
+            rate,
+            format,
+            size,
+            start: at + HEADER_LENGTH,
+        },
     }
 }
 
 pub(crate) fn chunk(rest: &[u8], at: usize, seen: Seen) -> Step
-    requires { ⌜ at < 2 ^ 63 ⌝ }
+    requires { ⌜ (headerLength ≤ length (now rest)) × (at < 2 ^ 63) ⌝ }
     ensures { λ r. ⌜ stepOf r ≡ chunk (now (rest .entry)) at (seenOf seen) ⌝ }
 {
-    if rest.len() < 8 {
-        return Step::Ends(Reading::CutOff);
-    }
     if named(rest, 0, b"fmt ") {
-        return format_chunk(rest, at, seen);
+        return format_chunk(rest, seen);
     }
-    let size = four(rest, 4);
     if named(rest, 0, b"data") {
-        return Step::Ends(data_chunk(size, at, seen));
+        return Step::Ends(data_chunk(size_in(rest), at, seen));
     }
-    Step::On(next_chunk(at, size), seen)
+    Step::On(seen)
 }

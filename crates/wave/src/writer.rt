@@ -1,17 +1,27 @@
 // The header writer: 44 bytes before 24-bit samples.
-use crate::format::known_rate;
-use crate::put::put_chunk;
-use crate::put::put_four;
-use crate::put::put_name;
-use crate::put::put_two;
+use crate::values::CHANNELS;
+use crate::values::FMT_LENGTH;
+use crate::values::frame_size;
+use crate::values::known_rate;
 use answers::unit::LARGEST_DATA;
+use chunks::lowest::put_chunk;
+use fields::lowest::put_four;
+use fields::lowest::put_two;
+use fields::names::put_name;
+use samples::Format;
+use samples::bits;
 ghost use mathlib.Core.Path.{_≡_};
 ghost use Prim.Native.Nat.{_+_, _≤_};
 ghost use lib.ListN.{length};
 ghost use lib.Seq.{sets};
 ghost use Rattle.answers.specs.Checks.{Done};
 ghost use Rattle.answers.specs.Unit.{largestData};
-ghost use Rattle.wave.specs.Header.{header, fmtContents, writeOf};
+ghost use Rattle.wave.specs.Values.{fmtLength};
+ghost use Rattle.wave.specs.Header.{headerBytes, header, fmtContents, writeOf};
+ghost use Rattle.wave.specs.Private.{fmtSizes};
+
+// The bytes of the header.
+const HEADER_BYTES: usize = 44;
 
 // What `write` answers.
 pub enum Written {
@@ -21,30 +31,39 @@ pub enum Written {
     WrongBuffer,
     // 28: the rate is neither of the two.
     WrongRate,
-    // 26: the length is not a multiple of 3 or above 4,294,967,259.
+    // 26: the length is not whole frames, or above `LARGEST_DATA`.
     WrongLength,
+}
+
+// The last three values of `fmt `: byte rate, block size, bits.
+fn put_sizes(buffer: &mut [u8], at: usize, rate: u32)
+    requires { ⌜ (at + 8 ≤ length (now buffer)) × (rate ≤ 48000) ⌝ }
+    ensures { λ _. ⌜ now (buffer .exit) ≡ sets (now (buffer .entry)) at (fmtSizes rate) ⌝ }
+{
+    let frame = frame_size(Format::Bits24);
+    put_four(buffer, at, rate * frame);
+    put_two(buffer, at + 4, frame);
+    put_two(buffer, at + 6, bits(Format::Bits24));
 }
 
 // The contents of `fmt ` for 24 bits.
 fn put_format(buffer: &mut [u8], at: usize, rate: u32)
-    requires { ⌜ (at + 16 ≤ length (now buffer)) × (rate ≤ 48000) ⌝ }
+    requires { ⌜ (at + fmtLength ≤ length (now buffer)) × (rate ≤ 48000) ⌝ }
     ensures { λ _. ⌜ now (buffer .exit) ≡ sets (now (buffer .entry)) at (fmtContents rate) ⌝ }
 {
     put_two(buffer, at, 1);
-    put_two(buffer, at + 2, 1);
+    put_two(buffer, at + 2, CHANNELS);
     put_four(buffer, at + 4, rate);
-    put_four(buffer, at + 8, rate * 3);
-    put_two(buffer, at + 12, 3);
-    put_two(buffer, at + 14, 24);
+    put_sizes(buffer, at + 8, rate);
 }
 
 fn put_header(buffer: &mut [u8], rate: u32, size: u32)
-    requires { ⌜ (length (now buffer) ≡ 44) × (rate ≤ 48000) × (size ≤ largestData) ⌝ }
+    requires { ⌜ (length (now buffer) ≡ headerBytes) × (rate ≤ 48000) × (size ≤ largestData) ⌝ }
     ensures { λ _. ⌜ now (buffer .exit) ≡ header rate size ⌝ }
 {
     put_chunk(buffer, 0, b"RIFF", size + 36);
     put_name(buffer, 8, b"WAVE");
-    put_chunk(buffer, 12, b"fmt ", 16);
+    put_chunk(buffer, 12, b"fmt ", FMT_LENGTH);
     put_format(buffer, 20, rate);
     put_chunk(buffer, 36, b"data", size);
 }
@@ -53,18 +72,18 @@ fn put_header(buffer: &mut [u8], rate: u32, size: u32)
 pub fn write(buffer: &mut [u8], rate: u32, size: u32) -> Written
     ensures { λ r. ⌜ Done (writeOf (now (buffer .entry)) rate size) r (now (buffer .exit)) ⌝ }
 {
-    if buffer.len() != 44 {
+    if buffer.len() != HEADER_BYTES {
         return Written::WrongBuffer;
     }
     if !known_rate(rate) {
         return Written::WrongRate;
     }
-    if size % 3 != 0 {
+    if size % frame_size(Format::Bits24) != 0 {
         return Written::WrongLength;
     }
     if LARGEST_DATA < size {
         return Written::WrongLength;
     }
     put_header(buffer, rate, size);
-    Written::Header(44)
+    Written::Header(HEADER_BYTES)
 }

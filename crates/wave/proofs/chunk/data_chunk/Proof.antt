@@ -1,7 +1,6 @@
 -- `chunk::data_chunk` meets its contract, case by case of `dataChunk`. Assumes nothing.
 use borrow.Author.Needs.{needs}
 use Rattle.wave.specs.Walk.{dataChunk}
-use Rattle.wave.proofs.ByTest.{picking, dividing}
 use Rattle.wave.proofs.chunk.data_chunk.Statement.{statement}
 use Rattle.wave.proofs.chunk.data_chunk.Tie as tie
 
@@ -12,9 +11,6 @@ data-chunk-spec =
     (tie.spec
     (λ c. search needs)
     (λ c. search needs)
-    (λ c κs. search needs)
-    (λ c. search needs)
-    (λ c. rw (c .before .before .before .seen .given .1) (search (picking, dividing) depth 12))
     (λ c. search needs)
     (λ c. rw (c .enum-told .given .1))
-    (λ c. rw (c .before .before .before .seen .given .1) (search (picking, dividing) depth 12)))
+    (λ c. rw (c .before .seen .given .1)))

@@ -1,20 +1,41 @@
--- `read` meets its contract: it judges the front, or all where there are no more bytes. Assumes nothing.
+-- `read` meets its contract: what was found is judged, and a refusal stays. Assumes nothing.
 use mathlib.Core.Path.{sym, ap, _∙_}
-use native.Mathlib.Omega.{arith}
-use lib.Seq.{length-take-le, take-all}
 use borrow.Author.Needs.{needs}
-use Rattle.answers.specs.Unit.{frontLength}
-use Rattle.wave.specs.Walk.{judge, readOf}
+use Rattle.wave.specs.Walk.{readOf, findAnswer}
+use Rattle.wave.proofs.Judging.{passes, part-frame, whole-frames}
 use Rattle.wave.proofs.reader.read.Statement.{statement}
 use Rattle.wave.proofs.reader.read.Tie as tie
+
+returns : tie.Need-returns
+unfolding readOf
+returns c =
+    let told = c .before .before .before .rate .given in
+    let finds = c .before .before .before .before .before .find in
+    part-frame _ _ _ (c .before .frame-size .ensures .0) (sym (ap findAnswer (told .1)) ∙ finds .ensures) (c .if1 .taken)
+
+returns-2 : tie.Need-returns-2
+unfolding readOf
+returns-2 c =
+    let told = c .before .before .before .rate .given in
+    let finds = c .before .before .before .before .before .find in
+    whole-frames _ _ _ (c .before .frame-size .ensures .0) (sym (ap findAnswer (told .1)) ∙ finds .ensures) (c .if1 .left)
 
 pub read-spec : {M : Type 1} → statement M
 unfolding readOf
 read-spec =
     tie.close
     (tie.spec
-    (λ c. sym (length-take-le frontLength (c .before .before .before .args .front .now) (omega arith)))
     (λ c κs. search needs)
-    (λ c. c .judge .ensures)
+    (λ c. search needs)
     (λ c κs. search needs)
-    (λ c. c .judge2 .ensures ∙ ap judge (sym (take-all frontLength (c .before .before .before .args .front .now) (c .before .if1 .left)))))
+    (λ c. search needs)
+    returns
+    (λ c. search needs)
+    (λ c. search needs)
+    (λ c. search needs)
+    (λ c. search needs)
+    returns-2
+    (λ c. passes _ _ _ (sym (ap findAnswer (c .enum-told .given .1)) ∙ c .before .before .find .ensures))
+    (λ c. passes _ _ _ (sym (ap findAnswer (c .enum-told2 .given .1)) ∙ c .before .before .find .ensures))
+    (λ c. passes _ _ _ (sym (ap findAnswer (c .enum-told3 .given .1)) ∙ c .before .before .find .ensures))
+    (λ c. passes _ _ _ (sym (ap findAnswer (c .enum-told4 .given .1)) ∙ c .before .before .find .ensures)))

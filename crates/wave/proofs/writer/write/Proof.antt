@@ -1,8 +1,9 @@
 -- `write` meets its contract: the checks in turn, then the header. Assumes nothing.
 use borrow.Author.Needs.{needs}
 use Rattle.answers.proofs.Branches.{judging}
+use Rattle.fields.proofs.ByTest.{dividing}
 use Rattle.wave.specs.Header.{writeOf}
-use Rattle.wave.proofs.Writing.{rate-small}
+use Rattle.wave.proofs.RightValues.{rate-small}
 use Rattle.wave.proofs.writer.write.Statement.{statement}
 use Rattle.wave.proofs.writer.write.Tie as tie
 
@@ -14,8 +15,10 @@ write-spec =
     (λ c. search judging depth 12)
     (λ c κs. search needs)
     (λ c. search judging depth 12)
-    (λ c. search judging depth 12)
-    (λ c. search judging depth 12)
+    (λ c κs. search needs)
+    (λ c. search needs)
+    (λ c. search (judging, dividing) depth 12)
+    (λ c. search (judging, dividing) depth 12)
     (λ c κs. search (needs, judging, rate-small) depth 12)
     (λ c. search needs)
-    (λ c. search judging depth 12))
+    (λ c. search (judging, dividing) depth 12))

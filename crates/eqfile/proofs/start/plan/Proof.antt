@@ -1,0 +1,36 @@
+-- `start::plan` meets its contract. Assumes nothing.
+use mathlib.Core.Path.{_≡_, sym, ap, _∙_}
+use native.Mathlib.Omega.{arith}
+use Rattle.wave.specs.Walk.{readAnswer}
+use Rattle.wave.specs.declared.reader.Reading.{Reading}
+use Rattle.eqfile.specs.Start.{planOf}
+use Rattle.eqfile.proofs.StartOrder.{reader-refuses, too-long, to-be-written}
+use borrow.Author.Needs.{needs}
+use Rattle.eqfile.proofs.start.plan.Statement.{statement}
+use Rattle.eqfile.proofs.start.plan.Tie as tie
+
+-- what a reading comes to, from the case that it is
+from : {x y : Reading} → x ≡ y → planOf (readAnswer y) ≡ planOf (readAnswer x)
+from e = sym (ap (λ (r : Reading). planOf (readAnswer r)) e)
+
+returns : tie.Need-returns
+returns c =
+    let block = c .before in
+    let read = block .before .before .reading .given in
+    too-long (read .0 .0) (read .0 .1 .0) (read .0 .1 .1 .0) (read .0 .1 .1 .1 .0) (block .bytes-each .result) (block .bytes-each .ensures .0) (omega arith)
+    ∙ from (read .1)
+
+returns-2 : tie.Need-returns-2
+returns-2 c =
+    let block = c .before in
+    let read = block .before .before .reading .given in
+    to-be-written (read .0 .0) (read .0 .1 .0) (read .0 .1 .1 .0) (read .0 .1 .1 .1 .0) (block .bytes-each .result) (block .bytes-each .ensures .0) (omega arith)
+    ∙ from (read .1)
+
+pub plan-spec : {M : Type 1} → statement M
+plan-spec =
+    tie.close
+    (tie.spec (λ c. search needs) (λ c κs. search needs) (λ c. search needs) returns (λ c. search needs) (λ c. search needs) (λ c. search needs)
+    (λ c. search needs) (λ c. search needs) returns-2 (λ c. reader-refuses 21 ∙ from (c .enum-told .given .1)) (λ c. reader-refuses 22 ∙ from (c .enum-told2 .given .1))
+    (λ c. reader-refuses 23 ∙ from (c .enum-told3 .given .1)) (λ c. reader-refuses 24 ∙ from (c .enum-told4 .given .1))
+    (λ c. reader-refuses 25 ∙ from (c .enum-told5 .given .1)))

@@ -1,0 +1,68 @@
+// How a run starts: the checks in their order.
+use crate::refusal::Refusal;
+use crate::taking::Arguments;
+use crate::taking::BANDS;
+use answers::unit::LARGEST_DATA;
+use samples::Format;
+use samples::bytes_each;
+use wave::Reading;
+ghost use mathlib.Core.Path.{_≡_};
+ghost use Rattle.wave.specs.Walk.{readAnswer};
+ghost use Rattle.eqfile.specs.Start.{planOf, startOf, startAnswer};
+
+pub enum Start {
+    // `samples` samples of a format, whose bytes begin at `start` of the front.
+    Run {
+        rate: u32,
+        format: Format,
+        samples: u32,
+        start: usize,
+    },
+    Refused(Refusal),
+}
+
+// The most samples whose three bytes each a header can state.
+const MOST: u32 = LARGEST_DATA / 3;
+
+// An accepted header, if its samples can be written.
+fn plan(reading: Reading) -> Start
+    ensures { λ r. ⌜ startAnswer r ≡ planOf (readAnswer reading) ⌝ }
+{
+    match reading {
+        Reading::Accepted {
+            rate,
+            format,
+            length,
+            start,
+        } => {
+            let samples = length / bytes_each(format);
+            if MOST < samples {
+                return Start::Refused(Refusal::TooLong);
+            }
+            Start::Run {
+                rate,
+                format,
+                samples,
+                start,
+            }
+        }
+        Reading::NotWave => Start::Refused(Refusal::NotWave),
+        Reading::NoFormat => Start::Refused(Refusal::NoFormat),
+        Reading::WrongFormat => Start::Refused(Refusal::WrongFormat),
+        Reading::CutOff => Start::Refused(Refusal::CutOff),
+        Reading::PartSample => Start::Refused(Refusal::PartSample),
+    }
+}
+
+// The arguments, then the header, then the length to be written.
+pub fn begin(arguments: Arguments, front: &[u8]) -> Start
+    ensures { λ r. ⌜ startAnswer r ≡ startOf arguments (now (front .entry)) ⌝ }
+{
+    let Arguments::Taken(n) = arguments else {
+        return Start::Refused(Refusal::Arguments);
+    };
+    if n != BANDS {
+        return Start::Refused(Refusal::Arguments);
+    }
+    plan(wave::read(front))
+}

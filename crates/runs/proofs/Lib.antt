@@ -1,0 +1,13 @@
+pub mod Written
+pub mod NeverMore
+pub mod SamplesInPieces
+pub mod InRange
+pub mod BlockCalls
+pub mod NeverRefused
+pub mod AllowedGains
+pub mod Program
+pub mod AllAsked
+pub mod GivenBack
+pub mod Starting
+pub mod DataRead
+pub mod WholeFile

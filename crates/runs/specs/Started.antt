@@ -1,0 +1,23 @@
+-- A run that has started.
+use mathlib.Core.Path.{_≡_}
+use mathlib.Core.List.{List, _++_}
+use Prim.Native.Nat.{ℕ, _*_}
+use lib.IntN.{ℤ}
+use Rattle.answers.specs.Answer.{accepted}
+use Rattle.wave.specs.Header.{header}
+use Rattle.samples.specs.declared.format.Format.{Format}
+use Rattle.eqfile.specs.declared.taking.Arguments.the-variants.{Taken}
+use Rattle.eqfile.specs.declared.start.Start.the-variants.{Run}
+use Rattle.eqfile.specs.Arguments.{bands, argumentsOf}
+use Rattle.eqfile.specs.Start.{startOf, startAnswer}
+use Rattle.runs.specs.Program.{fresh, programWrites}
+
+-- rules 10.3, 10.5: some arguments were accepted with these gains, and the front with this rate, format, number of samples and start of the data
+pub record Started (gains : List ℤ) (front : List ℕ) (rate : ℕ) (format : Format) (samples start : ℕ) : Type 0 where
+  pub texts : List (List ℕ)
+  pub taken : argumentsOf texts ≡ accepted gains
+  pub begins : startAnswer (Run rate format samples start) ≡ startOf (Taken bands) front
+
+-- rule 10.8: the file that a run writes: the header, and what its turns hand over
+abbrev pub fileOf : (gains : List ℤ) (rate : ℕ) (format : Format) (samples : ℕ) → List (List ℕ) → List ℕ
+fileOf gains rate format samples us = header rate (3 * samples) ++ programWrites gains format samples fresh us

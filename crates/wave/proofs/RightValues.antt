@@ -1,0 +1,36 @@
+-- The right values: the rates and a frame's bytes are small. Assumes nothing.
+use mathlib.Core.Path.{_≡_, ap, subst}
+use mathlib.Core.Bool.{Bool, true, _||_}
+use Prim.Native.Nat.{ℕ, _*_, _<_, _≤_}
+use native.Mathlib.Omega.{arith}
+use native.Mathlib.Nat.{mul-le-mul}
+use lib.Dec.{eqb, lit<}
+use borrow.Author.Tests.{eqb-true}
+use Rattle.samples.specs.declared.format.Format.{Format}
+use Rattle.samples.specs.declared.format.Format.the-variants.{Bits16, Bits24}
+use Rattle.fields.proofs.ByTest.{by-test}
+use Rattle.wave.specs.Values.{frameSize, knownRate}
+
+-- neither rate is above 48,000
+pub rate-small : (rate : ℕ) → knownRate rate ≡ true → rate ≤ 48000
+unfolding knownRate
+rate-small rate h =
+    by-test (eqb rate 44100)
+    (λ t. omega (arith, eqb-true rate 44100 t))
+    (λ t. omega (arith, eqb-true rate 48000 (subst (λ (b : Bool). (b || eqb rate 48000) ≡ true) t h)))
+
+-- the byte rate of a known rate fits
+pub product-fits : (rate size : ℕ) → rate ≤ 48000 → size < 4 → rate * size < 4294967296
+product-fits rate size r s =
+    let three : size ≤ 3 = omega arith in
+    let l : rate * size ≤ 48000 * 3 = mul-le-mul r three in
+    omega arith
+
+-- a frame has bytes
+pub frame-positive : (format : Format) → 0 < frameSize format
+frame-positive Bits16 = lit< tt
+frame-positive Bits24 = lit< tt
+
+-- a byte rate is tested against a frame's bytes
+pub by-frame : (rate byteRate size : ℕ) {frame : ℕ} → size ≡ frame → eqb byteRate (rate * size) ≡ eqb byteRate (rate * frame)
+by-frame rate byteRate size e = ap (λ (n : ℕ). eqb byteRate (rate * n)) e

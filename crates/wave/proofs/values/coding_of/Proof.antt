@@ -1,0 +1,15 @@
+-- `values::coding_of` meets its contract: the tests of `codingOf` in turn. Assumes nothing.
+use Rattle.fields.proofs.ByTest.{picking}
+use Rattle.wave.specs.Values.{codingOf}
+use Rattle.wave.proofs.values.coding_of.Statement.{statement}
+use Rattle.wave.proofs.values.coding_of.Tie as tie
+
+pub coding-of-spec : {M : Type 1} → statement M
+unfolding codingOf
+coding-of-spec =
+    tie.close
+    (tie.spec
+    (λ c. search picking depth 12)
+    (λ c. search picking depth 12)
+    (λ c. search picking depth 12)
+    (λ c. search picking depth 12))

@@ -1,0 +1,20 @@
+-- `values::right` meets its contract: the tests of `right` in turn. Assumes nothing.
+use borrow.Author.Needs.{needs}
+use Rattle.fields.proofs.ByTest.{anding}
+use Rattle.wave.specs.Values.{right}
+use Rattle.wave.proofs.RightValues.{rate-small, product-fits, by-frame}
+use Rattle.wave.proofs.values.right.Statement.{statement}
+use Rattle.wave.proofs.values.right.Tie as tie
+
+pub right-spec : {M : Type 1} → statement M
+unfolding right
+right-spec =
+    tie.close
+    (tie.spec
+    (λ c. search anding depth 12)
+    (λ c κs. search needs)
+    (λ c. search anding depth 12)
+    (λ c κs. search needs)
+    (λ c. search anding depth 12)
+    (λ c. search (product-fits, rate-small, anding) depth 12)
+    (λ c. search (by-frame, anding) depth 12))

@@ -1,0 +1,77 @@
+// The first step of the reader: the names, and the walk to the `data` chunk.
+use crate::chunk::Seen;
+use crate::chunk::Step;
+use crate::chunk::chunk;
+use answers::unit::FRONT_LENGTH;
+use chunks::lowest::next_after;
+use chunks::place::header_in;
+use fields::names::named;
+use samples::Format;
+ghost use mathlib.Core.Path.{_≡_};
+ghost use lib.ListN.{length};
+ghost use Rattle.answers.specs.Answer.{refused};
+ghost use Rattle.fields.specs.Bytes.{lowest};
+ghost use Rattle.chunks.specs.Walk.{walk};
+ghost use Rattle.wave.specs.Walk.{nothing, chunk, find, findOf, findAnswer};
+
+// What `find` answers.
+pub enum Finding {
+    // `size` bytes of samples start at `start`.
+    Data {
+        rate: u32,
+        format: Format,
+        size: u32,
+        start: usize,
+    },
+    // 21: under 12 bytes, or the names are wrong.
+    NotWave,
+    // 22: no `fmt ` before `data`.
+    NoFormat,
+    // 23: a `fmt ` of another length, with a wrong value, or a second one.
+    WrongFormat,
+    // 24: a chunk's header, or the contents of `fmt `, not wholly in the front.
+    CutOff,
+}
+
+fn walk(front: &[u8]) -> Finding
+    ensures { λ r. ⌜ findAnswer r ≡ walk lowest (refused 24 0) chunk (length (now (front .entry))) (now (front .entry)) 12 nothing ⌝ }
+{
+    let mut at: usize = 12;
+    let mut seen = Seen::Nothing;
+    while header_in(front, at) {
+        match chunk(&front[at..], at, seen) {
+            Step::Ends(finding) => {
+                return finding;
+            }
+            Step::On(met) => {
+                seen = met;
+                at = next_after(front, at);
+            }
+        }
+    }
+    Finding::CutOff
+}
+
+fn find_in(front: &[u8]) -> Finding
+    ensures { λ r. ⌜ findAnswer r ≡ find (now (front .entry)) ⌝ }
+{
+    if front.len() < 12 {
+        return Finding::NotWave;
+    }
+    if named(front, 0, b"RIFF") {
+        if named(front, 8, b"WAVE") {
+            return walk(front);
+        }
+    }
+    Finding::NotWave
+}
+
+// Finds the samples of a file by its front: the first 4,096 bytes, or the whole file if shorter.
+pub fn find(front: &[u8]) -> Finding
+    ensures { λ r. ⌜ findAnswer r ≡ findOf (now (front .entry)) ⌝ }
+{
+    if FRONT_LENGTH < front.len() {
+        return find_in(&front[..FRONT_LENGTH]);
+    }
+    find_in(front)
+}
