@@ -4,7 +4,8 @@ use mathlib.Core.List.{List, [], _∷_, _++_}
 use Prim.Native.Nat.{ℕ, zero, suc, _+_, _*_, _/_, _%_, _^_, _<_}
 use native.Mathlib.Nat.{zero-add, suc-add, pow-zero, pow-succ', one-le-pow, mod-lt, div-one, mod-add-div, mod-eq-of-lt, div-div-eq-div-mul, add-mul-mod-self-left}
 use native.Mathlib.Omega.{arith}
-use lib.ListN.{length, getD}
+use lib.ListN.{length, getD, take, drop}
+use lib.Seq.{getD-drop}
 use Rattle.fields.specs.Bytes.{number, little}
 
 -- ---- bytes
@@ -19,6 +20,14 @@ no-bytes i = omega arith
 pub bytes-cons : (b : ℕ) (s : List ℕ) → b < 256 → Bytes s → Bytes (b ∷ s)
 bytes-cons b s h rest zero = h
 bytes-cons b s h rest (suc i) = rest i
+
+pub bytes-take : (n : ℕ) (s : List ℕ) → Bytes s → Bytes (take n s)
+bytes-take zero s bytes = no-bytes
+bytes-take (suc n) [] bytes = no-bytes
+bytes-take (suc n) (b ∷ s) bytes = bytes-cons b (take n s) (bytes 0) (bytes-take n s (λ i. bytes (suc i)))
+
+pub bytes-drop : (n : ℕ) (s : List ℕ) → Bytes s → Bytes (drop n s)
+bytes-drop n s bytes i = rw (getD-drop n s i 0) (bytes (n + i))
 
 -- ---- powers
 

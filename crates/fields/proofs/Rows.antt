@@ -2,11 +2,11 @@
 use mathlib.Core.Path.{_≡_, refl, sym, ap, _∙_, subst}
 use mathlib.Core.List.{List, [], _∷_, _++_, append-nil, append-assoc, reverse, reverseAux, reverse-append, reverse-reverse}
 use Prim.Native.Nat.{ℕ, suc, _+_, _-_, _*_, _/_, _%_, _^_, _<_, _≤_}
-use native.Mathlib.Nat.{add-zero, add-suc, suc-add, add-comm, mul-comm, mod-lt, div-lt-iff-lt-mul}
+use native.Mathlib.Nat.{add-zero, add-suc, suc-add, add-comm, mul-comm, mod-lt, div-lt-iff-lt-mul, pow-le-pow-right}
 use lib.Pow.{pow-add}
 use native.Mathlib.Omega.{arith}
 use lib.ListN.{length, getD, take, drop, set, length-reverse, length-drop, drop-of-length-le}
-use lib.Seq.{sets, sets-eq, take-add, drop-drop, length-take-le, getD-drop, take-at, drop-at}
+use lib.Seq.{sets, sets-eq, take-add, take-nil, drop-drop, length-take-le, getD-drop, take-at, drop-at}
 use Rattle.fields.specs.Bytes.{Order, lowest, highest, number, little, ordered, numberIn, field, row}
 use Rattle.fields.proofs.Numbers.{Bytes, bytes-cons, no-bytes, pow-positive, length-little, bytes-little, number-little, little-number, number-below, number-append, little-parts}
 
@@ -51,10 +51,12 @@ row-number order s bytes =
     ap (λ (k : ℕ). ordered order (little k (number (ordered order s)))) (sym (length-ordered order s))
     ∙ ap (ordered order) (little-number (ordered order s) (bytes-ordered order s bytes)) ∙ ordered-twice order s
 
-pub number-in-below : (order : Order) (s : List ℕ) → Bytes s → numberIn order s < 256 ^ length s
+pub number-in-below : (order : Order) (k : ℕ) (s : List ℕ) → Bytes s → length s ≤ k → numberIn order s < 256 ^ k
 unfolding numberIn
-number-in-below order s bytes =
-    subst (λ (k : ℕ). number (ordered order s) < 256 ^ k) (length-ordered order s) (number-below (ordered order s) (bytes-ordered order s bytes))
+number-in-below order k s bytes h =
+    let below = number-below (ordered order s) (bytes-ordered order s bytes) in
+    let most : 256 ^ length (ordered order s) ≤ 256 ^ k = pow-le-pow-right (omega arith) (rw (length-ordered order s) h) in
+    omega arith
 
 -- ---- two parts
 
@@ -119,6 +121,26 @@ one-byte highest (b ∷ t) = omega arith
 pub field-1 : (order : Order) (s : List ℕ) (place : ℕ) → field order s place 1 ≡ getD s place 0
 unfolding field
 field-1 order s place = one-byte order (drop place s) ∙ getD-drop place s 0 0 ∙ ap (λ (i : ℕ). getD s i 0) (add-zero place)
+
+-- byte by byte, the lowest first, whether or not the bytes are there
+number-take : (k : ℕ) (t : List ℕ) → number (take (suc k) t) ≡ getD t 0 0 + 256 * number (take k (drop 1 t))
+unfolding number
+number-take k [] = rw (take-nil k)
+number-take k (b ∷ t) = refl
+
+field-suc : (s : List ℕ) (place k : ℕ) → field lowest s place (suc k) ≡ getD s place 0 + 256 * field lowest s (place + 1) k
+unfolding field numberIn ordered
+field-suc s place k =
+    number-take k (drop place s)
+    ∙ rw (getD-drop place s 0 0, add-zero place, drop-drop 1 place s)
+
+pub field-2 : (s : List ℕ) (place : ℕ) → field lowest s place 2 ≡ getD s place 0 + 256 * getD s (place + 1) 0
+field-2 s place = field-suc s place 1 ∙ ap (λ (n : ℕ). getD s place 0 + 256 * n) (field-1 lowest s (place + 1))
+
+pub field-3 : (s : List ℕ) (place : ℕ) → field lowest s place 3 ≡ getD s place 0 + 256 * getD s (place + 1) 0 + 65536 * getD s (place + 2) 0
+field-3 s place =
+    let last : getD s (place + 1 + 1) 0 ≡ getD s (place + 2) 0 = ap (λ (i : ℕ). getD s i 0) (omega arith) in
+    omega (arith, field-suc s place 2, field-2 s (place + 1))
 
 -- a number read in two parts
 pub read-parts : (order : Order) (j k : ℕ) (s : List ℕ) (place a b : ℕ) → place + (j + k) ≤ length s →

@@ -1,0 +1,7 @@
+pub mod Codec
+pub mod Complement
+pub mod InRange
+pub mod RoundTrips
+pub mod Singles
+pub mod Storing
+pub mod Taking
