@@ -1,10 +1,18 @@
 -- The walk over the chunks of a front, for any file format: what a chunk means is the format's `step`.
 use Prim.Native.Nat.{ℕ, zero, suc, _+_}
-use mathlib.Core.Bool.{Bool, cond}
+use mathlib.Core.Bool.{Bool, _&&_, cond}
 use mathlib.Core.List.{List, _++_}
 use lib.ListN.{length, take, drop}
 use lib.Dec.{leb}
 use Rattle.fields.specs.Bytes.{Order, field, row, same}
+
+-- rule 8.3: a file's name, its length and the name of its form come before the first chunk
+abbrev pub formLength : ℕ
+formLength = 12
+
+-- rule 8.3: whether a front starts with a name and a form
+abbrev pub isForm : (front name form : List ℕ) → Bool
+isForm front name form = leb formLength (length front) && (same (take 4 front) name && same (take 4 (drop 8 front)) form)
 
 -- rule 8.4: a chunk's header is its name and the length of its contents, four bytes each
 abbrev pub headerLength : ℕ

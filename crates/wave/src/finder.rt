@@ -3,15 +3,17 @@ use crate::chunk::Seen;
 use crate::chunk::Step;
 use crate::chunk::chunk;
 use answers::unit::FRONT_LENGTH;
+use chunks::form::FORM_LENGTH;
+use chunks::form::is_form;
 use chunks::lowest::next_after;
 use chunks::place::header_in;
-use fields::names::named;
 use samples::Format;
+use whole::counts::least;
 ghost use mathlib.Core.Path.{_≡_};
 ghost use lib.ListN.{length};
 ghost use Rattle.answers.specs.Answer.{refused};
 ghost use Rattle.fields.specs.Bytes.{lowest};
-ghost use Rattle.chunks.specs.Walk.{walk};
+ghost use Rattle.chunks.specs.Walk.{formLength, walk};
 ghost use Rattle.wave.specs.Walk.{nothing, chunk, find, findOf, findAnswer};
 
 // What `find` answers.
@@ -34,9 +36,9 @@ pub enum Finding {
 }
 
 fn walk(front: &[u8]) -> Finding
-    ensures { λ r. ⌜ findAnswer r ≡ walk lowest (refused 24 0) chunk (length (now (front .entry))) (now (front .entry)) 12 nothing ⌝ }
+    ensures { λ r. ⌜ findAnswer r ≡ walk lowest (refused 24 0) chunk (length (now (front .entry))) (now (front .entry)) formLength nothing ⌝ }
 {
-    let mut at: usize = 12;
+    let mut at = FORM_LENGTH;
     let mut seen = Seen::Nothing;
     while header_in(front, at) {
         match chunk(&front[at..], at, seen) {
@@ -55,13 +57,8 @@ fn walk(front: &[u8]) -> Finding
 fn find_in(front: &[u8]) -> Finding
     ensures { λ r. ⌜ findAnswer r ≡ find (now (front .entry)) ⌝ }
 {
-    if front.len() < 12 {
-        return Finding::NotWave;
-    }
-    if named(front, 0, b"RIFF") {
-        if named(front, 8, b"WAVE") {
-            return walk(front);
-        }
+    if is_form(front, b"RIFF", b"WAVE") {
+        return walk(front);
     }
     Finding::NotWave
 }
@@ -70,8 +67,6 @@ fn find_in(front: &[u8]) -> Finding
 pub fn find(front: &[u8]) -> Finding
     ensures { λ r. ⌜ findAnswer r ≡ findOf (now (front .entry)) ⌝ }
 {
-    if FRONT_LENGTH < front.len() {
-        return find_in(&front[..FRONT_LENGTH]);
-    }
-    find_in(front)
+    let n = least(front.len(), FRONT_LENGTH);
+    find_in(&front[..n])
 }
