@@ -54,19 +54,14 @@ fn walk(front: &[u8]) -> Finding
     Finding::CutOff
 }
 
-fn find_in(front: &[u8]) -> Finding
-    ensures { λ r. ⌜ findAnswer r ≡ find (now (front .entry)) ⌝ }
-{
-    if is_form(front, b"RIFF", b"WAVE") {
-        return walk(front);
-    }
-    Finding::NotWave
-}
-
 // Finds the samples of a file by its front: the first 4,096 bytes, or the whole file if shorter.
 pub fn find(front: &[u8]) -> Finding
     ensures { λ r. ⌜ findAnswer r ≡ findOf (now (front .entry)) ⌝ }
 {
     let n = least(front.len(), FRONT_LENGTH);
-    find_in(&front[..n])
+    let part = &front[..n];
+    if is_form(part, b"RIFF", b"WAVE") {
+        return walk(part);
+    }
+    Finding::NotWave
 }

@@ -11,14 +11,15 @@ use fields::names::put_name;
 use samples::Format;
 use samples::bits;
 ghost use mathlib.Core.Path.{_≡_};
-ghost use Prim.Native.Nat.{_+_, _≤_};
+ghost use Prim.Native.Nat.{_+_, _≤_, _<_};
+ghost use mathlib.Core.List.{_++_};
 ghost use lib.ListN.{length};
 ghost use lib.Seq.{sets};
 ghost use Rattle.answers.specs.Checks.{Done};
 ghost use Rattle.answers.specs.Unit.{largestData};
+ghost use Rattle.fields.specs.Bytes.{lowest, row};
 ghost use Rattle.wave.specs.Values.{fmtLength};
 ghost use Rattle.wave.specs.Header.{headerBytes, header, fmtContents, writeOf};
-ghost use Rattle.wave.specs.Private.{fmtSizes};
 
 // The bytes of the header.
 const HEADER_BYTES: usize = 44;
@@ -35,15 +36,13 @@ pub enum Written {
     WrongLength,
 }
 
-// The last three values of `fmt `: byte rate, block size, bits.
-fn put_sizes(buffer: &mut [u8], at: usize, rate: u32)
-    requires { ⌜ (at + 8 ≤ length (now buffer)) × (rate ≤ 48000) ⌝ }
-    ensures { λ _. ⌜ now (buffer .exit) ≡ sets (now (buffer .entry)) at (fmtSizes rate) ⌝ }
+// Two numbers of two bytes each.
+fn put_pair(buffer: &mut [u8], at: usize, x: u32, y: u32)
+    requires { ⌜ (at + 4 ≤ length (now buffer)) × (x < 65536) × (y < 65536) ⌝ }
+    ensures { λ _. ⌜ now (buffer .exit) ≡ sets (now (buffer .entry)) at (row lowest 2 x ++ row lowest 2 y) ⌝ }
 {
-    let frame = frame_size(Format::Bits24);
-    put_four(buffer, at, rate * frame);
-    put_two(buffer, at + 4, frame);
-    put_two(buffer, at + 6, bits(Format::Bits24));
+    put_two(buffer, at, x);
+    put_two(buffer, at + 2, y);
 }
 
 // The contents of `fmt ` for 24 bits.
@@ -51,10 +50,11 @@ fn put_format(buffer: &mut [u8], at: usize, rate: u32)
     requires { ⌜ (at + fmtLength ≤ length (now buffer)) × (rate ≤ 48000) ⌝ }
     ensures { λ _. ⌜ now (buffer .exit) ≡ sets (now (buffer .entry)) at (fmtContents rate) ⌝ }
 {
-    put_two(buffer, at, 1);
-    put_two(buffer, at + 2, CHANNELS);
+    let frame = frame_size(Format::Bits24);
+    put_pair(buffer, at, 1, CHANNELS);
     put_four(buffer, at + 4, rate);
-    put_sizes(buffer, at + 8, rate);
+    put_four(buffer, at + 8, rate * frame);
+    put_pair(buffer, at + 12, frame, bits(Format::Bits24));
 }
 
 fn put_header(buffer: &mut [u8], rate: u32, size: u32)

@@ -1,5 +1,6 @@
--- `writer::put_format` meets its contract: three numbers, and the other three behind them. Assumes nothing.
+-- `writer::put_format` meets its contract: six numbers, one behind the other. Assumes nothing.
 use borrow.Author.Needs.{needs}
+use Rattle.wave.proofs.RightValues.{product-fits}
 use Rattle.wave.proofs.Writing.{fmt-row}
 use Rattle.wave.proofs.writer.put_format.Statement.{statement}
 use Rattle.wave.proofs.writer.put_format.Tie as tie
@@ -9,11 +10,14 @@ put-format-spec =
     tie.close
     (tie.spec
     (λ c κs. search needs)
-    (λ c. search needs)
     (λ c κs. search needs)
     (λ c. search needs)
     (λ c κs. search needs)
     (λ c. search needs)
+    (λ c. search product-fits)
+    (λ c κs. search needs)
+    (λ c. search needs)
+    (λ c κs. search needs)
     (λ c κs. search needs)
     (λ c. search needs)
     (λ c. search fmt-row))
