@@ -12,3 +12,4 @@ pub mod ReadRight
 pub mod Starting
 pub mod DataRead
 pub mod WholeFile
+pub mod OneMore
