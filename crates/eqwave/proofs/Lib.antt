@@ -1,2 +1,2 @@
-pub mod BetweenBlocks
 pub mod TakenInTurn
+pub mod Turning

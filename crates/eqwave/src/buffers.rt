@@ -1,26 +1,27 @@
 // The buffers of a run.
 use answers::unit::BLOCK_LIMIT;
 ghost use mathlib.Core.Path.{_≡_};
-ghost use lib.ListN.{length};
+ghost use Prim.Native.Nat.{_*_};
+ghost use lib.ListN.{length, replicate};
+ghost use Rattle.answers.specs.Unit.{blockLimit};
 ghost use Rattle.octave.specs.Memory.{memoryLength};
 ghost use Rattle.eqfile.specs.Arguments.{bands};
-ghost use Rattle.eqwave.specs.Room.{samplesLong, bytesLong};
 
-// One block.
-const SAMPLES: usize = BLOCK_LIMIT;
-// Three bytes for each of its samples.
+// Three bytes for each sample of a block.
 const BYTES: usize = 3 * BLOCK_LIMIT;
 // The memory length of eight bands.
 const MEMORY: usize = 8066;
 
-pub(crate) fn samples() -> [i32; SAMPLES]
-    ensures { λ r. ⌜ samplesLong ≡ length r ⌝ }
+// The samples of one block.
+pub(crate) fn samples() -> [i32; BLOCK_LIMIT]
+    ensures { λ r. ⌜ blockLimit ≡ length r ⌝ }
 {
-    [0; SAMPLES]
+    [0; BLOCK_LIMIT]
 }
 
+// The bytes of one block, read or to be written.
 pub(crate) fn bytes() -> [u8; BYTES]
-    ensures { λ r. ⌜ bytesLong ≡ length r ⌝ }
+    ensures { λ r. ⌜ r ≡ replicate (3 * blockLimit) 0 ⌝ }
 {
     [0; BYTES]
 }

@@ -1,22 +1,31 @@
 // The program `eqwave`: it reads, calls and writes. What it decides, `eqfile` decides.
+use crate::place::Job;
 use eqfile::Arguments;
 use eqfile::Start;
+ghost use Rattle.eqwave.specs.Running.{Before};
 
 mod arguments;
 mod buffers;
+mod input;
+mod output;
+mod place;
 mod run;
 mod say;
+mod turn;
 
 fn main() {
     let mut gains = [0i32; eqfile::BANDS];
     let mut front = io::buffer();
     let arguments = arguments::take(&mut gains);
     let wanted = eqfile::front_wanted(arguments);
-    let got = io::read_full(libc::STDIN_FILENO, &mut front[..wanted]);
+    let got = input::fill(&mut front[..wanted]);
     begin(arguments, &front[..got], &gains);
 }
 
-fn begin(arguments: Arguments, front: &[u8], gains: &[i32]) {
+// A run, or the number that it is refused with.
+fn begin(arguments: Arguments, front: &[u8], gains: &[i32])
+    requires { ⌜ Before arguments (now front) (now gains) ⌝ }
+{
     match eqfile::begin(arguments, front) {
         Start::Refused(refusal) => say::line(b"refused ", eqfile::number(refusal)),
         Start::Run {
@@ -24,6 +33,13 @@ fn begin(arguments: Arguments, front: &[u8], gains: &[i32]) {
             format,
             samples,
             start,
-        } => run::run(rate, format, samples, gains, front, start),
+        } => {
+            let job = Job {
+                format,
+                samples,
+                start,
+            };
+            run::run(rate, job, gains, front)
+        }
     }
 }

@@ -11,3 +11,4 @@ pub mod GivenBack
 pub mod Starting
 pub mod DataRead
 pub mod WholeFile
+pub mod OneMore

@@ -11,7 +11,7 @@ use lib.ListN.{length}
 use lib.IntN.{ℤ}
 use Rattle.answers.specs.Answer.{Answer, accepted, refused}
 use Rattle.answers.specs.Checks.{decide}
-use Rattle.answers.specs.Unit.{largestData}
+use Rattle.answers.specs.Unit.{largestData, frontLength}
 use Rattle.wave.specs.Header.{header, writeOf}
 use Rattle.samples.specs.Format.{sizeOf}
 use Rattle.wave.specs.Values.{frameSize, knownRate}
@@ -33,14 +33,14 @@ clash e = let z : _≡_ {A = ℕ} 0 1 = cc in absurd (omega arith)
 
 -- what the program begins with: the arguments taken in turn into eight places, and a start that is a run
 pub started : (texts : List (List ℕ)) (before gains : List ℤ) (a : Arguments) (front : List ℕ) (rate : ℕ) (format : Format) (samples start : ℕ) → length before ≡ bands →
-    (a, gains) ≡ allOf (Taken 0, before) texts → startAnswer (Run rate format samples start) ≡ startOf a front → Started gains front rate format samples start
-started texts before gains a front rate format samples start eight all begins = by (argumentsOf texts) refl (arguments-promise texts before eight)
+    length front ≤ frontLength → (a, gains) ≡ allOf (Taken 0, before) texts → startAnswer (Run rate format samples start) ≡ startOf a front → Started gains front rate format samples start
+started texts before gains a front rate format samples start eight few all begins = by (argumentsOf texts) refl (arguments-promise texts before eight)
   where
     by : (q : Answer (List ℤ)) → argumentsOf texts ≡ q → Promised q (allOf (Taken 0, before) texts) → Started gains front rate format samples start
     by (accepted gs) e p =
         let same : gains ≡ gs = ap (λ (s : Arguments × List ℤ). s .1) (all ∙ p) in
         let done : a ≡ Taken bands = ap (λ (s : Arguments × List ℤ). s .0) (all ∙ p) in
-        record { texts = texts; taken = e ∙ ap accepted (sym same); begins = begins ∙ ap (λ (x : Arguments). startOf x front) done }
+        record { texts = texts; taken = e ∙ ap accepted (sym same); few = few; begins = begins ∙ ap (λ (x : Arguments). startOf x front) done }
     by (refused k n) e p = clash (begins ∙ ap (λ (s : Arguments × List ℤ). startOf (s .0) front) all ∙ p front)
 
 -- ---- what the header states

@@ -1,9 +1,11 @@
 -- A run that has started.
 use mathlib.Core.Path.{_≡_}
 use mathlib.Core.List.{List, _++_}
-use Prim.Native.Nat.{ℕ, _*_}
+use Prim.Native.Nat.{ℕ, _*_, _≤_}
+use lib.ListN.{length}
 use lib.IntN.{ℤ}
 use Rattle.answers.specs.Answer.{accepted}
+use Rattle.answers.specs.Unit.{frontLength}
 use Rattle.wave.specs.Header.{header}
 use Rattle.samples.specs.declared.format.Format.{Format}
 use Rattle.eqfile.specs.declared.taking.Arguments.the-variants.{Taken}
@@ -12,10 +14,11 @@ use Rattle.eqfile.specs.Arguments.{bands, argumentsOf}
 use Rattle.eqfile.specs.Start.{startOf, startAnswer}
 use Rattle.runs.specs.Program.{fresh, programWrites}
 
--- rules 10.3, 10.5: some arguments were accepted with these gains, and the front with this rate, format, number of samples and start of the data
+-- rules 10.3, 10.5: some arguments were accepted with these gains, and the front, at most 4,096 bytes, with this rate, format, number of samples and start of the data
 pub record Started (gains : List ℤ) (front : List ℕ) (rate : ℕ) (format : Format) (samples start : ℕ) : Type 0 where
   pub texts : List (List ℕ)
   pub taken : argumentsOf texts ≡ accepted gains
+  pub few : length front ≤ frontLength
   pub begins : startAnswer (Run rate format samples start) ≡ startOf (Taken bands) front
 
 -- rule 10.8: the file that a run writes: the header, and what its turns hand over

@@ -1,0 +1,73 @@
+-- A run of the program, as its functions hand it on: nothing is known of the bytes that standard input hands over, so there are some.
+use mathlib.Core.Path.{_≡_}
+use mathlib.Core.List.{List}
+use Prim.Native.Nat.{ℕ, _≤_, _<_}
+use lib.ListN.{length, replicate}
+use lib.IntN.{ℤ, pos}
+use Rattle.answers.specs.Unit.{frontLength}
+use Rattle.eqfile.specs.declared.taking.Arguments.{Arguments}
+use Rattle.eqfile.specs.declared.turn.Turn.{Turn}
+use Rattle.eqfile.specs.Arguments.{bands}
+use Rattle.eqfile.specs.Turn.{fedInAll}
+use Rattle.runs.specs.Program.{State, fresh, Follows, handed, turnAt, blockDone, after, Followed, ByPlan, fromOf, Fetched, AllFetched}
+use Rattle.runs.specs.Started.{Started}
+use Rattle.eqwave.specs.declared.place.Job.{Job}
+use Rattle.eqwave.specs.declared.place.Place.{Place}
+use Rattle.eqwave.specs.declared.turn.Turned.{Turned}
+use Rattle.eqwave.specs.declared.turn.Turned.the-variants.{On, OutputFailed}
+use Rattle.eqwave.specs.Arguments.{AllTaken}
+
+-- rule 10.5: what is known before the front is judged
+pub record Before (arguments : Arguments) (front : List ℕ) (gains : List ℤ) : Type 0 where
+  pub all-taken : AllTaken (replicate bands (pos 0)) arguments gains
+  pub few : length front ≤ frontLength
+
+-- rule 10.8: some run has started with this rate and number of samples
+pub record Begun (rate samples : ℕ) : Type 0 where
+  pub job : Job
+  pub gains : List ℤ
+  pub front : List ℕ
+  pub started : Started gains front rate (job .format) samples (job .start)
+
+-- rule 10.10: where a run stands
+abbrev pub stateAt : Place → List ℤ → State
+stateAt place memory = record { at = place .at; read = place .read; memory = memory }
+
+-- rules 10.10, 10.11: a run has started, and after some turns by the plan, whose bytes came from the front and standard input, it stands at a place with a memory
+pub record Running (job : Job) (gains : List ℤ) (front : List ℕ) (place : Place) (memory : List ℤ) : Type 0 where
+  pub rate : ℕ
+  pub started : Started gains front rate (job .format) (job .samples) (job .start)
+  pub pieces : List (List ℕ)
+  pub followed : Followed gains (job .format) (job .samples) fresh pieces
+  pub fetched : AllFetched gains (job .format) (job .samples) front (job .start) fresh pieces
+  pub stands : stateAt place memory ≡ after gains (job .format) (job .samples) fresh pieces
+
+-- rule 10.11: .. and these bytes came for its next turn
+pub record Came (job : Job) (gains : List ℤ) (front : List ℕ) (place : Place) (memory : List ℤ) (turn : Turn) (piece : List ℕ) : Type 0 where
+  pub running : Running job gains front place memory
+  pub turn-is : turn ≡ turnAt (job .format) (job .samples) (stateAt place memory)
+  pub follows : Follows turn piece
+  pub fetched : Fetched front (fromOf front (job .start) (place .at)) (turn .wanted) piece
+
+-- rule 10.8: these bytes are just those that the block of a run's next turn stores
+pub record Due (job : Job) (gains : List ℤ) (front : List ℕ) (bytes : List ℕ) : Type 0 where
+  pub place : Place
+  pub memory : List ℤ
+  pub turn : Turn
+  pub piece : List ℕ
+  pub came : Came job gains front place memory turn piece
+  pub is : bytes ≡ blockDone gains (job .format) (job .samples) (stateAt place memory) piece .lent .1
+
+-- rule 10.10: a turn leaves a run that has fed more
+abbrev pub Further : Job → List ℤ → List ℕ → Place → Turned → List ℤ → Type 0
+Further job gains front place (On further) memory = Running job gains front further memory × (place .at < fedInAll (job .samples) → place .at < further .at)
+Further job gains front place OutputFailed memory = Unit {0}
+
+-- rule 10.13: a run has ended by its plan, and so many bytes were read
+pub record Ended (job : Job) (gains : List ℤ) (front : List ℕ) (read : ℕ) : Type 0 where
+  pub rate : ℕ
+  pub started : Started gains front rate (job .format) (job .samples) (job .start)
+  pub pieces : List (List ℕ)
+  pub by-plan : ByPlan gains (job .format) (job .samples) fresh pieces
+  pub fetched : AllFetched gains (job .format) (job .samples) front (job .start) fresh pieces
+  pub read-is : read ≡ length (handed pieces)

@@ -1,0 +1,84 @@
+// One turn of a run: its bytes are read, its block is equalised, and what that stores is handed over.
+use crate::buffers;
+use crate::input;
+use crate::output;
+use crate::place::Job;
+use crate::place::Place;
+use eqfile::Equalised;
+use eqfile::Turn;
+ghost use mathlib.Core.Path.{_≡_};
+ghost use Rattle.runs.specs.Program.{blockDone};
+ghost use Rattle.eqwave.specs.Running.{stateAt, Running, Came, Further};
+
+// What a turn comes to.
+pub(crate) enum Turned {
+    // Where the run stands after it.
+    On(Place),
+    // Standard output took no more.
+    OutputFailed,
+}
+
+// No block of a run is refused.
+fn never() -> bool
+    requires { ⌜ ⊥ ⌝ }
+{
+    false
+}
+
+// Equalises the block of a turn for which some bytes came, and hands over what it stores. Answers whether that was taken.
+fn put(
+    job: Job,
+    gains: &[i32],
+    front: &[u8],
+    place: Place,
+    memory: &mut [i32],
+    turn: Turn,
+    piece: &[u8],
+) -> bool
+    requires { ⌜ Came job (now gains) (now front) place (now memory) turn (now piece) ⌝ }
+    ensures { λ _. ⌜ now (memory .exit) ≡ blockDone (now (gains .entry)) (job .format) (job .samples) (stateAt place (now (memory .entry))) (now (piece .entry)) .lent .0 ⌝ }
+{
+    let mut input = buffers::samples();
+    let mut stored = buffers::bytes();
+    let fed = turn.fed;
+    let written = turn.written;
+    let format = job.format;
+    eqfile::samples_from(piece, format, &mut input[..fed]);
+    let equalised = eqfile::equalise(
+        memory,
+        gains,
+        &input[..fed],
+        turn.skipped,
+        &mut stored[..written],
+    );
+    match equalised {
+        Equalised::Bytes(n) => output::hand(&stored[..n], job, gains, front),
+        Equalised::Refused => never(),
+    }
+}
+
+// The next turn of a run.
+pub(crate) fn one_turn(
+    job: Job,
+    gains: &[i32],
+    front: &[u8],
+    place: Place,
+    memory: &mut [i32],
+) -> Turned
+    requires { ⌜ Running job (now gains) (now front) place (now memory) ⌝ }
+    ensures { λ r. ⌜ Further job (now (gains .entry)) (now (front .entry)) place r (now (memory .exit)) ⌝ }
+{
+    let format = job.format;
+    let turn = eqfile::next_turn(format, job.samples, place.at, place.read);
+    let mut bytes = buffers::bytes();
+    let wanted = turn.wanted;
+    let from = input::from(front, job.start, place.at);
+    let got = input::fetch(front, from, &mut bytes[..wanted]);
+    if !put(job, gains, front, place, memory, turn, &bytes[..got]) {
+        return Turned::OutputFailed;
+    }
+    Turned::On(Place {
+        at: place.at + turn.fed,
+        read: place.read + got,
+    })
+}
