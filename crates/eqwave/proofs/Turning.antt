@@ -18,7 +18,8 @@ use Rattle.octave.specs.declared.memory.Prepared.{Prepared}
 use Rattle.octave.specs.Memory.{memoryLength, prepared, prepareOf}
 use Rattle.wave.specs.Header.{header, writeOf}
 use Rattle.samples.specs.Format.{sizeOf}
-use Rattle.wave.proofs.RoundTrips as Wave
+use Rattle.fields.specs.Bytes as fields
+use Rattle.fields.proofs.Numbers.{bytes-take}
 use Rattle.wave.specs.declared.writer.Written.{Written}
 use Rattle.eqfile.specs.declared.block.Equalised.{Equalised}
 use Rattle.eqfile.specs.declared.block.Equalised.the-variants.{Bytes, Refused}
@@ -33,7 +34,6 @@ use Rattle.runs.specs.Program.{State, fresh, Follows, handed, turnAt, blockDone
 use Rattle.runs.specs.Started.{Started}
 use Rattle.runs.proofs.BlockCalls.{read-within, read-is}
 use Rattle.runs.proofs.OneMore.{after-more, followed-more, fetched-more, at-within}
-use Rattle.runs.proofs.AllAsked.{bytes-take}
 use Rattle.runs.proofs.SamplesInPieces.{length-from}
 use Rattle.runs.proofs.Program.{block-accepted}
 use Rattle.runs.proofs.Starting.{few-enough, header-accepted}
@@ -78,7 +78,7 @@ module _ (front bytes : List ℕ) (from had : ℕ) (held : List ℕ) (e : (had, 
 
   pub came-in : (got : ℕ) (new : List ℕ) → got ≤ length new → length new ≡ length (take (length held - had) (drop had held)) →
       ((i : ℕ) → Fits w8 (getD (putMid had (length held - had) held new) i 0)) →
-      let piece = take (had + got) (putMid had (length held - had) held new) in Fetched front from (length bytes) piece × ((had + got ≤ length bytes) × Wave.Bytes piece)
+      let piece = take (had + got) (putMid had (length held - had) held new) in Fetched front from (length bytes) piece × ((had + got ≤ length bytes) × fields.Bytes piece)
   came-in got new g l each =
       let rest = drop (length held - had) (drop had held) in
       let whole = putMid had (length held - had) held new in
@@ -240,13 +240,13 @@ module _ (job : Job) (gains : List ℤ) (front : List ℕ) (place : Place) (memo
         pub piece-long : length (take got (new ++ drop (turn .wanted) bytes₀)) ≡ got
         piece-long = length-take-le got (new ++ drop (turn .wanted) bytes₀) got-there
 
-        pub piece-came : (from : ℕ) → from ≡ fromOf front (job .start) (place .at) → Fetched front from (length (take (turn .wanted) bytes₀)) (take got new) → Wave.Bytes (take got new) →
+        pub piece-came : (from : ℕ) → from ≡ fromOf front (job .start) (place .at) → Fetched front from (length (take (turn .wanted) bytes₀)) (take got new) → fields.Bytes (take got new) →
             Came job gains front place memory turn (take got (new ++ drop (turn .wanted) bytes₀))
         piece-came from e fetched bytes =
             record {
               running = run;
               turn-is = is;
-              follows = record { read-most = omega (arith, piece-long, got-few); bytes = subst Wave.Bytes (sym piece-is) bytes };
+              follows = record { read-most = omega (arith, piece-long, got-few); bytes = subst fields.Bytes (sym piece-is) bytes };
               fetched =
                   subst (λ (l : List ℕ). Fetched front (fromOf front (job .start) (place .at)) (turn .wanted) l) (sym piece-is)
                   (subst (λ (n : ℕ). Fetched front (fromOf front (job .start) (place .at)) n (take got new)) wanted-long

@@ -2,7 +2,7 @@
 ghost use Prim.Native.Nat.{_≤_};
 ghost use mathlib.Core.Path.{_≡_};
 ghost use lib.ListN.{length, take};
-ghost use Rattle.fields.proofs.Numbers.{Bytes};
+ghost use Rattle.fields.specs.Bytes.{Bytes};
 ghost use Rattle.runs.specs.Program.{Fetched, fromOf};
 
 // Fills the bytes from standard input, and answers how many came.

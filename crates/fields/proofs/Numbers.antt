@@ -4,15 +4,11 @@ use mathlib.Core.List.{List, [], _∷_, _++_}
 use Prim.Native.Nat.{ℕ, zero, suc, _+_, _*_, _/_, _%_, _^_, _<_}
 use native.Mathlib.Nat.{zero-add, suc-add, pow-zero, pow-succ', one-le-pow, mod-lt, div-one, mod-add-div, mod-eq-of-lt, div-div-eq-div-mul, add-mul-mod-self-left}
 use native.Mathlib.Omega.{arith}
-use lib.ListN.{length, getD, take, drop}
+use lib.ListN.{length, take, drop}
 use lib.Seq.{getD-drop}
-use Rattle.fields.specs.Bytes.{number, little}
+use Rattle.fields.specs.Bytes.{Bytes, number, little}
 
 -- ---- bytes
-
--- every element is a byte
-abbrev pub Bytes : List ℕ → Type 0
-Bytes s = (i : ℕ) → getD s i 0 < 256
 
 pub no-bytes : Bytes []
 no-bytes i = omega arith

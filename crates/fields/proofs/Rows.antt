@@ -7,8 +7,8 @@ use lib.Pow.{pow-add}
 use native.Mathlib.Omega.{arith}
 use lib.ListN.{length, getD, take, drop, set, length-reverse, length-drop, drop-of-length-le}
 use lib.Seq.{sets, sets-eq, take-add, take-nil, drop-drop, length-take-le, getD-drop, take-at, drop-at}
-use Rattle.fields.specs.Bytes.{Order, lowest, highest, number, little, ordered, numberIn, field, row}
-use Rattle.fields.proofs.Numbers.{Bytes, bytes-cons, no-bytes, pow-positive, length-little, bytes-little, number-little, little-number, number-below, number-append, little-parts}
+use Rattle.fields.specs.Bytes.{Bytes, Order, lowest, highest, number, little, ordered, numberIn, field, row}
+use Rattle.fields.proofs.Numbers.{bytes-cons, no-bytes, pow-positive, length-little, bytes-little, number-little, little-number, number-below, number-append, little-parts}
 
 -- ---- orders
 

@@ -1,9 +1,13 @@
 -- Numbers and names as bytes.
-use Prim.Native.Nat.{ℕ, zero, suc, _+_, _*_, _/_, _%_}
+use Prim.Native.Nat.{ℕ, zero, suc, _+_, _*_, _/_, _%_, _<_}
 use mathlib.Core.Bool.{Bool, true, false, _&&_}
 use mathlib.Core.List.{List, [], _∷_, reverse}
-use lib.ListN.{take, drop}
+use lib.ListN.{getD, take, drop}
 use lib.Dec.{eqb}
+
+-- rule 8.1: each number of a row is a byte
+abbrev pub Bytes : List ℕ → Type 0
+Bytes s = (i : ℕ) → getD s i 0 < 256
 
 -- rule 8.1: which byte of a number stands first
 pub data Order : Type 0 where

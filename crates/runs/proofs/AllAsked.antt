@@ -14,7 +14,8 @@ use lib.IntN.{ℤ}
 use Rattle.samples.specs.Format.{sizeOf}
 use Rattle.samples.specs.declared.format.Format.{Format}
 use Rattle.samples.specs.declared.format.Format.the-variants.{Bits16, Bits24}
-use Rattle.fields.proofs.Numbers.{Bytes, bytes-take}
+use Rattle.fields.specs.Bytes.{Bytes}
+use Rattle.fields.proofs.Numbers.{bytes-take}
 use Rattle.answers.specs.Unit.{blockLimit, frontLength}
 use Rattle.eqfile.specs.Turn.{fedInAll, wantedOf, turnOf}
 use Rattle.runs.specs.Program.{State, fresh, handed, turnAt, next, after, Followed, ByPlan}

@@ -22,7 +22,7 @@ use Rattle.answers.specs.Answer.{accepted}
 use Rattle.samples.specs.Samples.{samplesOf, bytesOf}
 use Rattle.samples.specs.declared.format.Format.{Format}
 use Rattle.samples.specs.declared.format.Format.the-variants.{Bits24}
-use Rattle.fields.proofs.Numbers.{Bytes}
+use Rattle.fields.specs.Bytes.{Bytes}
 use Rattle.samples.proofs.Singles.{block-there-and-back, bytes-there-and-back}
 use Rattle.eqfile.specs.Arguments.{bands, argumentsOf}
 use Rattle.eqfile.specs.Data.{samplesFrom}

@@ -6,7 +6,7 @@ use Prim.Native.Nat.{ℕ, zero, suc, _-_, _/_, min}
 use lib.ListN.{length, replicate}
 use lib.IntN.{pos}
 use Rattle.answers.specs.Unit.{leastSample, mostSample}
-use Rattle.fields.proofs.Numbers.{Bytes}
+use Rattle.fields.specs.Bytes.{Bytes}
 use Rattle.samples.specs.Samples.{samplesOf}
 use Rattle.samples.specs.Format.{sizeOf}
 use Rattle.samples.specs.declared.format.Format.{Format}

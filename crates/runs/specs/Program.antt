@@ -2,11 +2,12 @@
 use mathlib.Core.Path.{_≡_}
 use mathlib.Core.Bool.{cond}
 use mathlib.Core.List.{List, [], _∷_, _++_}
-use Prim.Native.Nat.{ℕ, _+_, _≤_, _<_}
+use Prim.Native.Nat.{ℕ, _+_, _≤_}
 use lib.Dec.{eqb}
-use lib.ListN.{length, getD, take, drop, replicate}
+use lib.ListN.{length, take, drop, replicate}
 use lib.IntN.{ℤ}
 use Rattle.answers.specs.Checks.{Outcome}
+use Rattle.fields.specs.Bytes.{Bytes}
 use Rattle.octave.specs.Memory.{prepared}
 use Rattle.samples.specs.Format.{sizeOf}
 use Rattle.samples.specs.declared.format.Format.{Format}
@@ -30,7 +31,7 @@ fresh = record { at = 0; read = 0; memory = prepared bands }
 -- rule 10.11: the bytes that were read for a turn by the plan: no more than it wants, fewer if data ends early
 pub record Follows (turn : Turn) (piece : List ℕ) : Type 0 where
   pub read-most : length piece ≤ turn .wanted
-  pub bytes : (i : ℕ) → getD piece i 0 < 256
+  pub bytes : Bytes piece
 
 -- rule 10.11: the data bytes read, joined
 unfoldable pub handed : List (List ℕ) → List ℕ

@@ -9,8 +9,8 @@ use lib.IntN.{ℤ}
 use Rattle.answers.specs.Range.{within, firstOutside, allWithin}
 use Rattle.answers.specs.Unit.{leastSample, mostSample}
 use Rattle.answers.proofs.Ranges.{all-cons, cons-all}
-use Rattle.fields.specs.Bytes.{lowest, numberIn}
-use Rattle.fields.proofs.Numbers.{Bytes, bytes-take, bytes-drop}
+use Rattle.fields.specs.Bytes.{Bytes, lowest, numberIn}
+use Rattle.fields.proofs.Numbers.{bytes-take, bytes-drop}
 use Rattle.fields.proofs.Rows.{number-in-below}
 use Rattle.samples.specs.Sample.{sampleIn}
 use Rattle.samples.specs.Samples.{samplesOf}

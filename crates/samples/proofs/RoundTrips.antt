@@ -9,8 +9,7 @@ use lib.IntN.{ℤ}
 use Rattle.answers.specs.Checks.{Outcome}
 use Rattle.answers.specs.Range.{within}
 use Rattle.answers.specs.Unit.{leastSample, mostSample}
-use Rattle.fields.specs.Bytes.{lowest, numberIn, row}
-use Rattle.fields.proofs.Numbers.{Bytes}
+use Rattle.fields.specs.Bytes.{Bytes, lowest, numberIn, row}
 use Rattle.fields.proofs.Rows.{length-row, number-row, row-number, number-in-below}
 use Rattle.samples.specs.Sample.{numberOf, codeOf, sampleIn, fromBytes, toBytes}
 use Rattle.samples.specs.declared.format.Format.the-variants.{Bits24}

@@ -12,8 +12,8 @@ use lib.IntN.{ℤ, pos}
 use Rattle.answers.specs.Range.{allWithin}
 use Rattle.answers.specs.Unit.{leastSample, mostSample}
 use Rattle.answers.proofs.Ranges.{all-at, all-cons}
-use Rattle.fields.specs.Bytes.{lowest, numberIn, ordered, little, row}
-use Rattle.fields.proofs.Numbers.{Bytes, bytes-take, bytes-drop}
+use Rattle.fields.specs.Bytes.{Bytes, lowest, numberIn, ordered, little, row}
+use Rattle.fields.proofs.Numbers.{bytes-take, bytes-drop}
 use Rattle.samples.specs.Sample.{numberOf, codeOf, sampleIn, fromBytes, toBytes}
 use Rattle.samples.specs.Samples.{samplesOf, bytesOf}
 use Rattle.samples.specs.Format.{sizeOf}
