@@ -1,7 +1,7 @@
 #!/usr/bin/env python3
 """Runs the program that is built for what its stored run does not see: standard error, refusals, pipes, long files.
 
-Each expected byte is the model's. Exits with 1 if anything differs, or if the program was not built before."""
+Each expected byte is the model's. Exits with 1 if anything differs, or if the program was not built before. `--stored` writes the stored run."""
 import os
 import random
 import subprocess
@@ -16,6 +16,7 @@ from model.wave import LARGEST, WHOLE, chunk, file24, fmt, riff
 TOP = os.path.join(os.path.dirname(os.path.abspath(__file__)), "..")
 PROGRAM = os.path.join(TOP, "eqwave")
 BUILT = os.path.join(TOP, "target", "bin", "eqwave")
+STORED = os.path.join(TOP, "crates", "eqwave")
 ZERO = ["0"] * 8
 LONG_SECONDS = 300
 failures = []
@@ -62,6 +63,29 @@ def samples(count, rng):
 def settings(rng):
     """Eight arguments."""
     return [str(rng.randint(-24, 24)) for _ in range(8)]
+
+
+def widened(data):
+    """16-bit samples as 24-bit ones."""
+    return b"".join(b"\0" + data[i:i + 2] for i in range(0, len(data), 2))
+
+
+def stored():
+    """The stored run: its arguments, its input and the model's output. It has two turns, and both read data."""
+    args = ["24", "-12", "0", "7", "-1", "0", "12", "24"]
+    data = random.Random(4500).randbytes(2 * 4500)
+    output = file24(reckon(args, widened(data)), 44100)
+    return {"args": "".join(a + "\n" for a in args).encode(), "stdin": riff(fmt(44100, 16), chunk(b"data", data)), "stdout": output}
+
+
+def stored_run(write):
+    """The files of the stored run are those; or they are written."""
+    for name, want in stored().items():
+        with open(os.path.join(STORED, name), "wb" if write else "rb") as file:
+            if write:
+                file.write(want)
+            else:
+                expect(f"the stored run's {name}", (file.read(), b""), (want, b""))
 
 
 def models_agree(rng):
@@ -143,7 +167,7 @@ def accepted_headers(rng):
 def sixteen_bits(rng):
     for count in (0, 1, 5000):
         data = rng.randbytes(2 * count)
-        wide = b"".join(b"\0" + data[i:i + 2] for i in range(0, len(data), 2))
+        wide = widened(data)
         source = riff(fmt(44100, 16), chunk(b"data", data))
         expect(f"16 bits, {count} samples", run(ZERO, source), (file24(wide, 44100), b""))
         args = settings(rng)
@@ -226,12 +250,18 @@ def long_file(rng, folder):
 
 def main():
     global TREE
+    if sys.argv[1:] == ["--stored"]:
+        with tempfile.TemporaryDirectory() as folder:
+            TREE = Tree(folder)
+            stored_run(True)
+        return 0
     seed = int(sys.argv[1]) if len(sys.argv) > 1 else 20261115
     rng = random.Random(seed)
     built = os.stat(BUILT)
     with tempfile.TemporaryDirectory() as folder:
         TREE = Tree(folder)
         models_agree(rng)
+        stored_run(False)
         whole_case()
         zero_gives_back(rng)
         arguments()
