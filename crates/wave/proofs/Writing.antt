@@ -1,6 +1,6 @@
 -- The header writer: rows stored one behind the other are the header. Assumes nothing.
 use mathlib.Core.Path.{_≡_, refl, sym, ap, _∙_}
-use mathlib.Core.List.{List, _++_, append-assoc}
+use mathlib.Core.List.{List, _++_}
 use Prim.Native.Nat.{ℕ, _+_, _*_}
 use native.Mathlib.Omega.{arith}
 use lib.ListN.{length}
@@ -24,34 +24,22 @@ pub length-header : (rate size : ℕ) → length (header rate size) ≡ headerBy
 unfolding header chunkHeader fmtContents row ordered little
 length-header rate size = refl
 
-length-pair : (x y : ℕ) → length (row lowest 2 x ++ row lowest 2 y) ≡ 4
-unfolding row ordered little
-length-pair x y = refl
-
 -- ---- rows
 
--- a number stored before a row; the row stands at `at + (k + j)`
-number-row : (l m n ys : List ℕ) (at k j x : ℕ) → m ≡ sets l (at + k) (row lowest j x) → n ≡ sets m (at + (k + j)) ys →
-    n ≡ sets l (at + k) (row lowest j x ++ ys)
-number-row l m n ys at k j x d e =
-    let place : at + (k + j) ≡ at + k + j = omega arith in
-    behind l m n (row lowest j x) ys (at + k) j (length-row lowest j x) d (e ∙ ap (λ (i : ℕ). sets m i ys) place)
-
-pub pair-row : (l m n : List ℕ) (at x y : ℕ) → m ≡ sets l at (row lowest 2 x) → n ≡ sets m (at + 2) (row lowest 2 y) →
-    n ≡ sets l at (row lowest 2 x ++ row lowest 2 y)
-pair-row l m n at x y d e = behind l m n (row lowest 2 x) (row lowest 2 y) at 2 (length-row lowest 2 x) d e
-
-pub fmt-row : (rate at frame bits : ℕ) (l m₁ m₂ m₃ m₄ : List ℕ) → frame ≡ frameSize written → bits ≡ bitsOf written →
-    m₁ ≡ sets l at (row lowest 2 1 ++ row lowest 2 channels) → m₂ ≡ sets m₁ (at + 4) (row lowest 4 rate) →
-    m₃ ≡ sets m₂ (at + 8) (row lowest 4 (rate * frame)) → m₄ ≡ sets m₃ (at + 12) (row lowest 2 frame ++ row lowest 2 bits) →
-    m₄ ≡ sets l at (fmtContents rate)
+pub fmt-row : (rate frame bits : ℕ) (l m₁ m₂ m₃ m₄ m₅ m₆ : List ℕ) → frame ≡ frameSize written → bits ≡ bitsOf written →
+    m₁ ≡ sets l 20 (row lowest 2 1) → m₂ ≡ sets m₁ 22 (row lowest 2 channels) → m₃ ≡ sets m₂ 24 (row lowest 4 rate) →
+    m₄ ≡ sets m₃ 28 (row lowest 4 (rate * frame)) → m₅ ≡ sets m₄ 32 (row lowest 2 frame) → m₆ ≡ sets m₅ 34 (row lowest 2 bits) →
+    m₆ ≡ sets l 20 (fmtContents rate)
 unfolding fmtContents
-fmt-row rate at frame bits l m₁ m₂ m₃ m₄ f b e₁ e₂ e₃ e₄ =
-    let t₃ = row lowest 2 frame ++ row lowest 2 bits in
-    let t₂ = row lowest 4 (rate * frame) ++ t₃ in
-    behind l m₁ m₄ (row lowest 2 1 ++ row lowest 2 channels) (row lowest 4 rate ++ t₂) at 4 (length-pair 1 channels) e₁
-    (number-row m₁ m₂ m₄ t₂ at 4 4 rate e₂ (number-row m₂ m₃ m₄ t₃ at 8 4 (rate * frame) e₃ e₄))
-    ∙ ap (sets l at) (append-assoc (row lowest 2 1) (row lowest 2 channels) (row lowest 4 rate ++ t₂)) ∙ rw (f, b)
+fmt-row rate frame bits l m₁ m₂ m₃ m₄ m₅ m₆ f b e₁ e₂ e₃ e₄ e₅ e₆ =
+    let t₅ = row lowest 2 frame ++ row lowest 2 bits in
+    let t₄ = row lowest 4 (rate * frame) ++ t₅ in
+    let t₃ = row lowest 4 rate ++ t₄ in
+    let f₅ = behind m₄ m₅ m₆ (row lowest 2 frame) (row lowest 2 bits) 32 2 (length-row lowest 2 frame) e₅ e₆ in
+    let f₄ = behind m₃ m₄ m₆ (row lowest 4 (rate * frame)) t₅ 28 4 (length-row lowest 4 (rate * frame)) e₄ f₅ in
+    let f₃ = behind m₂ m₃ m₆ (row lowest 4 rate) t₄ 24 4 (length-row lowest 4 rate) e₃ f₄ in
+    let f₂ = behind m₁ m₂ m₆ (row lowest 2 channels) t₃ 22 2 (length-row lowest 2 channels) e₂ f₃ in
+    behind l m₁ m₆ (row lowest 2 1) (row lowest 2 channels ++ t₃) 20 2 (length-row lowest 2 1) e₁ f₂ ∙ rw (f, b)
 
 pub header-row : (rate size : ℕ) (l m₁ m₂ m₃ m₄ m₅ : List ℕ) → length l ≡ headerBytes →
     m₁ ≡ sets l 0 (chunkHeader lowest riff (riffSize size)) → m₂ ≡ sets m₁ 8 wave → m₃ ≡ sets m₂ 12 (chunkHeader lowest fmt fmtLength) →

@@ -11,14 +11,11 @@ use fields::names::put_name;
 use samples::Format;
 use samples::bits;
 ghost use mathlib.Core.Path.{_≡_};
-ghost use Prim.Native.Nat.{_+_, _≤_, _<_};
-ghost use mathlib.Core.List.{_++_};
+ghost use Prim.Native.Nat.{_+_, _≤_};
 ghost use lib.ListN.{length};
 ghost use lib.Seq.{sets};
 ghost use Rattle.answers.specs.Checks.{Done};
 ghost use Rattle.answers.specs.Unit.{largestData};
-ghost use Rattle.fields.specs.Bytes.{lowest, row};
-ghost use Rattle.wave.specs.Values.{fmtLength};
 ghost use Rattle.wave.specs.Header.{headerBytes, header, fmtContents, writeOf};
 
 // The bytes of the header.
@@ -36,25 +33,18 @@ pub enum Written {
     WrongLength,
 }
 
-// Two numbers of two bytes each.
-fn put_pair(buffer: &mut [u8], at: usize, x: u32, y: u32)
-    requires { ⌜ (at + 4 ≤ length (now buffer)) × (x < 65536) × (y < 65536) ⌝ }
-    ensures { λ _. ⌜ now (buffer .exit) ≡ sets (now (buffer .entry)) at (row lowest 2 x ++ row lowest 2 y) ⌝ }
-{
-    put_two(buffer, at, x);
-    put_two(buffer, at + 2, y);
-}
-
-// The contents of `fmt ` for 24 bits.
-fn put_format(buffer: &mut [u8], at: usize, rate: u32)
-    requires { ⌜ (at + fmtLength ≤ length (now buffer)) × (rate ≤ 48000) ⌝ }
-    ensures { λ _. ⌜ now (buffer .exit) ≡ sets (now (buffer .entry)) at (fmtContents rate) ⌝ }
+// The contents of `fmt ` for 24 bits, in their place.
+fn put_format(buffer: &mut [u8], rate: u32)
+    requires { ⌜ (36 ≤ length (now buffer)) × (rate ≤ 48000) ⌝ }
+    ensures { λ _. ⌜ now (buffer .exit) ≡ sets (now (buffer .entry)) 20 (fmtContents rate) ⌝ }
 {
     let frame = frame_size(Format::Bits24);
-    put_pair(buffer, at, 1, CHANNELS);
-    put_four(buffer, at + 4, rate);
-    put_four(buffer, at + 8, rate * frame);
-    put_pair(buffer, at + 12, frame, bits(Format::Bits24));
+    put_two(buffer, 20, 1);
+    put_two(buffer, 22, CHANNELS);
+    put_four(buffer, 24, rate);
+    put_four(buffer, 28, rate * frame);
+    put_two(buffer, 32, frame);
+    put_two(buffer, 34, bits(Format::Bits24));
 }
 
 fn put_header(buffer: &mut [u8], rate: u32, size: u32)
@@ -64,7 +54,7 @@ fn put_header(buffer: &mut [u8], rate: u32, size: u32)
     put_chunk(buffer, 0, b"RIFF", size + 36);
     put_name(buffer, 8, b"WAVE");
     put_chunk(buffer, 12, b"fmt ", FMT_LENGTH);
-    put_format(buffer, 20, rate);
+    put_format(buffer, rate);
     put_chunk(buffer, 36, b"data", size);
 }
 
