@@ -5,16 +5,11 @@ use Prim.Native.Nat.{ℕ, _≤_}
 use native.Mathlib.Omega.{arith}
 use lib.Dec.{lit<}
 use lib.ListN.{length}
-use types.Run.{OneOf, miss}
-use denote.Enum.Declared.{tagOf}
 use Rattle.answers.specs.Answer.{Answer, accepted, refused}
 use Rattle.answers.specs.Unit.{frontLength}
 use Rattle.samples.specs.Format.{bitsOf}
-use Rattle.wave.specs.Walk.{Found, readOf, readAnswer}
-use Rattle.wave.specs.declared.reader.Reading.{Reading}
-use Rattle.wave.specs.declared.reader.Reading.the-variants.{Accepted, NotWave, NoFormat, WrongFormat, CutOff, PartSample}
+use Rattle.wave.specs.Walk.{Found, readOf}
 use Rattle.wave.proofs.Answers.{Told, accepts, refuses, read-told, accepted-start}
-use Rattle.wave.proofs.reader.Reading as reading
 use Rattle.capi.specs.Found.{ofFound, foundAfter}
 use Rattle.capi.specs.Parts.{Counted, StartFits}
 
@@ -33,15 +28,6 @@ start-fits lent = by (readOf lent) (λ f e. accepted-start lent f e)
     by : (a : Answer Found) → ((f : Found) → a ≡ accepted f → f .start ≤ frontLength) → StartFits a
     by (accepted f) h = omega (arith, h f refl)
     by (refused number place) h = tt
-
--- a reading that is not accepted, by its tag, leaves the places
-pub kept : (r : Reading) → OneOf (1 ∷ 2 ∷ 3 ∷ 4 ∷ 5 ∷ []) (tagOf reading.the-type r) → (old : List ℕ) → old ≡ foundAfter (readAnswer r) old
-kept (Accepted rate format size start) t old = absurd (miss (1 ∷ 2 ∷ 3 ∷ 4 ∷ 5 ∷ []) 0 tt t)
-kept NotWave t old = refl
-kept NoFormat t old = refl
-kept WrongFormat t old = refl
-kept CutOff t old = refl
-kept PartSample t old = refl
 
 -- four places are all set, whatever they held
 pub found-is : (f : Found) (old : List ℕ) → length old ≡ 4 → foundAfter (accepted f) old ≡ f .rate ∷ bitsOf (f .format) ∷ f .size ∷ f .start ∷ []

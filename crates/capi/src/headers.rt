@@ -21,11 +21,7 @@ fn read_parts(answer: Reading) -> CountParts
             length: _,
             start: _,
         } => CountParts(0, 0, 4),
-        Reading::NotWave => CountParts(21, 0, 0),
-        Reading::NoFormat => CountParts(22, 0, 0),
-        Reading::WrongFormat => CountParts(23, 0, 0),
-        Reading::CutOff => CountParts(24, 0, 0),
-        Reading::PartSample => CountParts(25, 0, 0),
+        Reading::Refused(refusal) => CountParts(wave::number(refusal), 0, 0),
     }
 }
 

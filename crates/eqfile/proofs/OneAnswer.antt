@@ -6,6 +6,8 @@ use Prim.Native.Nat.{ℕ}
 use lib.Dec.{eqb}
 use Rattle.answers.specs.Answer.{Answer, accepted, refused}
 use Rattle.answers.proofs.Laws.{one-case}
+use Rattle.wave.specs.declared.refusal.Refusal.the-variants as header
+use Rattle.wave.proofs.OneAnswer.{refusal-back}
 use Rattle.eqfile.specs.declared.taking.Arguments.{Arguments}
 use Rattle.eqfile.specs.declared.refusal.Refusal.{Refusal}
 use Rattle.eqfile.specs.declared.refusal.Refusal.the-variants as refusal
@@ -16,9 +18,7 @@ use Rattle.eqfile.specs.Start.{Plan, numberOf, startOf, startAnswer}
 -- ---- the way back
 
 refusalBack : ℕ → Refusal
-refusalBack n =
-    cond (eqb n 21) refusal.NotWave (cond (eqb n 22) refusal.NoFormat (cond (eqb n 23) refusal.WrongFormat (cond (eqb n 24) refusal.CutOff
-    (cond (eqb n 25) refusal.PartSample (cond (eqb n 26) refusal.TooLong refusal.Arguments)))))
+refusalBack n = cond (eqb n 30) refusal.Arguments (cond (eqb n 26) refusal.TooLong (refusal.Header (refusal-back n)))
 
 startBack : Answer Plan → Start
 startBack (accepted p) = start.Run (p .rate) (p .format) (p .samples) (p .start)
@@ -27,11 +27,11 @@ startBack (refused n p) = start.Refused (refusalBack n)
 refusal-way : (r : Refusal) → refusalBack (numberOf r) ≡ r
 unfolding refusalBack
 refusal-way refusal.Arguments = refl
-refusal-way refusal.NotWave = refl
-refusal-way refusal.NoFormat = refl
-refusal-way refusal.WrongFormat = refl
-refusal-way refusal.CutOff = refl
-refusal-way refusal.PartSample = refl
+refusal-way (refusal.Header header.NotWave) = refl
+refusal-way (refusal.Header header.NoFormat) = refl
+refusal-way (refusal.Header header.WrongFormat) = refl
+refusal-way (refusal.Header header.CutOff) = refl
+refusal-way (refusal.Header header.PartFrame) = refl
 refusal-way refusal.TooLong = refl
 
 start-way : (r : Start) → startBack (startAnswer r) ≡ r

@@ -8,6 +8,7 @@ use Rattle.answers.specs.Unit.{largestData}
 use Rattle.samples.specs.Format.{sizeOf}
 use Rattle.samples.specs.declared.format.Format.{Format}
 use Rattle.wave.specs.Walk.{Found, readOf}
+use Rattle.wave.specs.Walk as wave
 use Rattle.eqfile.specs.declared.taking.Arguments.{Arguments}
 use Rattle.eqfile.specs.declared.taking.Arguments.the-variants as arguments
 use Rattle.eqfile.specs.Arguments.{bands}
@@ -26,11 +27,7 @@ pub record Plan : Type 0 where
 -- the rule book's number of a refusal
 abbrev pub numberOf : Refusal → ℕ
 numberOf refusal.Arguments = 30
-numberOf refusal.NotWave = 21
-numberOf refusal.NoFormat = 22
-numberOf refusal.WrongFormat = 23
-numberOf refusal.CutOff = 24
-numberOf refusal.PartSample = 25
+numberOf (refusal.Header r) = wave.numberOf r
 numberOf refusal.TooLong = 26
 
 -- rule 10.6: the samples in the data, if a header can state the bytes that they are written in

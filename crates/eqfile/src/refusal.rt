@@ -6,11 +6,7 @@ pub enum Refusal {
     // 30
     Arguments,
     // 21 to 25: the reader's.
-    NotWave,
-    NoFormat,
-    WrongFormat,
-    CutOff,
-    PartSample,
+    Header(wave::Refusal),
     // 26: three bytes for each sample are too many.
     TooLong,
 }
@@ -20,11 +16,7 @@ pub fn number(refusal: Refusal) -> u64
     ensures { λ r. ⌜ r ≡ numberOf refusal ⌝ }
 {
     match refusal {
-        Refusal::NotWave => 21,
-        Refusal::NoFormat => 22,
-        Refusal::WrongFormat => 23,
-        Refusal::CutOff => 24,
-        Refusal::PartSample => 25,
+        Refusal::Header(refused) => wave::number(refused) as u64,
         Refusal::TooLong => 26,
         Refusal::Arguments => 30,
     }

@@ -46,11 +46,7 @@ fn plan(reading: Reading) -> Start
                 start,
             }
         }
-        Reading::NotWave => Start::Refused(Refusal::NotWave),
-        Reading::NoFormat => Start::Refused(Refusal::NoFormat),
-        Reading::WrongFormat => Start::Refused(Refusal::WrongFormat),
-        Reading::CutOff => Start::Refused(Refusal::CutOff),
-        Reading::PartSample => Start::Refused(Refusal::PartSample),
+        Reading::Refused(refused) => Start::Refused(Refusal::Header(refused)),
     }
 }
 

@@ -16,7 +16,9 @@ use Rattle.wave.specs.declared.values.Coding.the-variants.{Known, Unknow
 use Rattle.wave.specs.declared.finder.Finding.{Finding}
 use Rattle.wave.specs.declared.finder.Finding.the-variants as finding
 use Rattle.wave.specs.declared.reader.Reading.{Reading}
-use Rattle.wave.specs.declared.reader.Reading.the-variants.{Accepted, NotWave, NoFormat, WrongFormat, CutOff, PartSample}
+use Rattle.wave.specs.declared.reader.Reading.the-variants as reading
+use Rattle.wave.specs.declared.refusal.Refusal.{Refusal}
+use Rattle.wave.specs.declared.refusal.Refusal.the-variants.{NotWave, NoFormat, WrongFormat, CutOff, PartFrame}
 
 -- rule 8.12: what is found: `size` is the length of `data` in bytes, and its contents start at `start`
 pub record Found : Type 0 where
@@ -85,19 +87,20 @@ findOf lent = find (take frontLength lent)
 unfoldable pub readOf : List ℕ → Answer Found
 readOf lent = wholeFrames (findOf lent)
 
+-- rule 6.8: the number of a refusal
+abbrev pub numberOf : Refusal → ℕ
+numberOf NotWave = 21
+numberOf NoFormat = 22
+numberOf WrongFormat = 23
+numberOf CutOff = 24
+numberOf PartFrame = 25
+
 -- rule 6.8: numbers and values for `Finding`
 abbrev pub findAnswer : Finding → Answer Found
 findAnswer (finding.Data rate format size start) = accepted (record { rate = rate; format = format; size = size; start = start })
-findAnswer finding.NotWave = refused 21 0
-findAnswer finding.NoFormat = refused 22 0
-findAnswer finding.WrongFormat = refused 23 0
-findAnswer finding.CutOff = refused 24 0
+findAnswer (finding.Refused r) = refused (numberOf r) 0
 
 -- rule 6.8: numbers and values for `Reading`
 abbrev pub readAnswer : Reading → Answer Found
-readAnswer (Accepted rate format size start) = accepted (record { rate = rate; format = format; size = size; start = start })
-readAnswer NotWave = refused 21 0
-readAnswer NoFormat = refused 22 0
-readAnswer WrongFormat = refused 23 0
-readAnswer CutOff = refused 24 0
-readAnswer PartSample = refused 25 0
+readAnswer (reading.Accepted rate format size start) = accepted (record { rate = rate; format = format; size = size; start = start })
+readAnswer (reading.Refused r) = refused (numberOf r) 0

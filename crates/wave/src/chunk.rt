@@ -1,5 +1,6 @@
 // One chunk of the reader's walk. `rest` is the front from the chunk on, and `at` the chunk's place in it.
 use crate::finder::Finding;
+use crate::refusal::Refusal;
 use crate::values::Coding;
 use crate::values::FMT_LENGTH;
 use crate::values::coding_of;
@@ -39,9 +40,9 @@ fn judged(coding: Coding, count: u32, rate: u32, byterate: u32, block: u32) -> S
             if right(format, count, rate, byterate, block) {
                 return Step::On(Seen::Sound(rate, format));
             }
-            Step::Ends(Finding::WrongFormat)
+            Step::Ends(Finding::Refused(Refusal::WrongFormat))
         }
-        Coding::Unknown => Step::Ends(Finding::WrongFormat),
+        Coding::Unknown => Step::Ends(Finding::Refused(Refusal::WrongFormat)),
     }
 }
 
@@ -64,14 +65,14 @@ fn format_chunk(rest: &[u8], seen: Seen) -> Step
     ensures { λ r. ⌜ stepOf r ≡ fmtChunk (now (rest .entry)) (seenOf seen) ⌝ }
 {
     if size_in(rest) != FMT_LENGTH {
-        return Step::Ends(Finding::WrongFormat);
+        return Step::Ends(Finding::Refused(Refusal::WrongFormat));
     }
     if !contained(rest) {
-        return Step::Ends(Finding::CutOff);
+        return Step::Ends(Finding::Refused(Refusal::CutOff));
     }
     match seen {
         Seen::Nothing => format_values(rest),
-        Seen::Sound(_, _) => Step::Ends(Finding::WrongFormat),
+        Seen::Sound(_, _) => Step::Ends(Finding::Refused(Refusal::WrongFormat)),
     }
 }
 
@@ -80,7 +81,7 @@ fn data_chunk(size: u32, at: usize, seen: Seen) -> Finding
     ensures { λ r. ⌜ findAnswer r ≡ dataChunk size at (seenOf seen) ⌝ }
 {
     match seen {
-        Seen::Nothing => Finding::NoFormat,
+        Seen::Nothing => Finding::Refused(Refusal::NoFormat),
         Seen::Sound(rate, format) => Finding::Data {
             rate,
             format,

@@ -2,6 +2,7 @@
 use crate::chunk::Seen;
 use crate::chunk::Step;
 use crate::chunk::chunk;
+use crate::refusal::Refusal;
 use answers::unit::FRONT_LENGTH;
 use chunks::form::FORM_LENGTH;
 use chunks::form::is_form;
@@ -25,14 +26,8 @@ pub enum Finding {
         size: u32,
         start: usize,
     },
-    // 21: under 12 bytes, or the names are wrong.
-    NotWave,
-    // 22: no `fmt ` before `data`.
-    NoFormat,
-    // 23: a `fmt ` of another length, with a wrong value, or a second one.
-    WrongFormat,
-    // 24: a chunk's header, or the contents of `fmt `, not wholly in the front.
-    CutOff,
+    // 21 to 24.
+    Refused(Refusal),
 }
 
 fn walk(front: &[u8]) -> Finding
@@ -51,7 +46,7 @@ fn walk(front: &[u8]) -> Finding
             }
         }
     }
-    Finding::CutOff
+    Finding::Refused(Refusal::CutOff)
 }
 
 // Finds the samples of a file by its front: the first 4,096 bytes, or the whole file if shorter.
@@ -63,5 +58,5 @@ pub fn find(front: &[u8]) -> Finding
     if is_form(part, b"RIFF", b"WAVE") {
         return walk(part);
     }
-    Finding::NotWave
+    Finding::Refused(Refusal::NotWave)
 }

@@ -3,6 +3,7 @@
 mod chunk;
 mod finder;
 mod reader;
+mod refusal;
 mod values;
 mod writer;
 
@@ -10,5 +11,7 @@ pub use finder::Finding;
 pub use finder::find;
 pub use reader::Reading;
 pub use reader::read;
+pub use refusal::Refusal;
+pub use refusal::number;
 pub use writer::Written;
 pub use writer::write;

@@ -1,6 +1,7 @@
 // The header reader: it finds the samples, and then judges their length.
 use crate::finder::Finding;
 use crate::finder::find;
+use crate::refusal::Refusal;
 use crate::values::frame_size;
 use samples::Format;
 ghost use mathlib.Core.Path.{_≡_};
@@ -15,16 +16,8 @@ pub enum Reading {
         length: u32,
         start: usize,
     },
-    // 21: under 12 bytes, or the names are wrong.
-    NotWave,
-    // 22: no `fmt ` before `data`.
-    NoFormat,
-    // 23: a `fmt ` of another length, with a wrong value, or a second one.
-    WrongFormat,
-    // 24: a chunk's header, or the contents of `fmt `, not wholly in the front.
-    CutOff,
-    // 25: the length of `data` is not whole frames.
-    PartSample,
+    // 21 to 25.
+    Refused(Refusal),
 }
 
 // Reads the header at the front of a file.
@@ -39,7 +32,7 @@ pub fn read(front: &[u8]) -> Reading
             start,
         } => {
             if size % frame_size(format) != 0 {
-                return Reading::PartSample;
+                return Reading::Refused(Refusal::PartFrame);
             }
             Reading::Accepted {
                 rate,
@@ -48,9 +41,6 @@ pub fn read(front: &[u8]) -> Reading
                 start,
             }
         }
-        Finding::NotWave => Reading::NotWave,
-        Finding::NoFormat => Reading::NoFormat,
-        Finding::WrongFormat => Reading::WrongFormat,
-        Finding::CutOff => Reading::CutOff,
+        Finding::Refused(refusal) => Reading::Refused(refusal),
     }
 }

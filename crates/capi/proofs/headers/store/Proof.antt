@@ -6,7 +6,6 @@ use Rattle.wave.specs.Walk.{readAnswer}
 use Rattle.wave.specs.declared.reader.Reading.{Reading}
 use Rattle.capi.specs.Found.{foundAfter}
 use Rattle.capi.specs.Parts.{StartFits}
-use Rattle.capi.proofs.Reading.{kept}
 use Rattle.capi.proofs.headers.store.Statement.{statement}
 use Rattle.capi.proofs.headers.store.Tie as tie
 
@@ -21,7 +20,9 @@ returns c =
     rw (c .bits .ensures) (sym (ap (λ (r : Reading). foundAfter (readAnswer r) (now (s .args .found))) (c .before .before .answer .given .1)))
 
 returns-2 : tie.Need-returns-2
-returns-2 c = kept (c .before .args .answer) (c .match .keys2) (now (c .before .args .found))
+returns-2 c =
+    let a = c .before .before .args in
+    sym (ap (λ (r : Reading). foundAfter (readAnswer r) (now (a .found))) (c .enum-told .given .1))
 
 pub store-spec : {M : Type 1} → statement M
 store-spec =
@@ -33,6 +34,7 @@ store-spec =
     (λ c. search needs)
     (λ c. search needs)
     cast-found
+    (λ c. search needs)
     (λ c. search needs)
     returns
     returns-2)

@@ -30,7 +30,5 @@ returns-2 c =
 pub plan-spec : {M : Type 1} → statement M
 plan-spec =
     tie.close
-    (tie.spec (λ c. search needs) (λ c κs. search needs) (λ c. search needs) returns (λ c. search needs) (λ c. search needs) (λ c. search needs)
-    (λ c. search needs) (λ c. search needs) returns-2 (λ c. reader-refuses 21 ∙ from (c .enum-told .given .1)) (λ c. reader-refuses 22 ∙ from (c .enum-told2 .given .1))
-    (λ c. reader-refuses 23 ∙ from (c .enum-told3 .given .1)) (λ c. reader-refuses 24 ∙ from (c .enum-told4 .given .1))
-    (λ c. reader-refuses 25 ∙ from (c .enum-told5 .given .1)))
+    (tie.spec (λ c. search needs) (λ c κs. search needs) (λ c. search needs) returns (λ c. search needs) returns-2
+    (λ c. reader-refuses _ ∙ from (c .before .reading2 .given .1)))

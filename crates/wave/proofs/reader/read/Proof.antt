@@ -31,11 +31,5 @@ read-spec =
     (λ c. search needs)
     returns
     (λ c. search needs)
-    (λ c. search needs)
-    (λ c. search needs)
-    (λ c. search needs)
     returns-2
-    (λ c. passes _ _ _ (sym (ap findAnswer (c .enum-told .given .1)) ∙ c .before .before .find .ensures))
-    (λ c. passes _ _ _ (sym (ap findAnswer (c .enum-told2 .given .1)) ∙ c .before .before .find .ensures))
-    (λ c. passes _ _ _ (sym (ap findAnswer (c .enum-told3 .given .1)) ∙ c .before .before .find .ensures))
-    (λ c. passes _ _ _ (sym (ap findAnswer (c .enum-told4 .given .1)) ∙ c .before .before .find .ensures)))
+    (λ c. passes _ _ _ (sym (ap findAnswer (c .before .refusal .given .1)) ∙ c .before .before .before .find .ensures)))
