@@ -1,17 +1,18 @@
 -- What an answer of the finder and of the reader tells, for the crates above: they go by its cases, and never walk again. Assumes nothing.
-use mathlib.Core.Path.{_≡_, refl, sym, ap, subst}
+use mathlib.Core.Path.{_≡_, refl, sym, ap, _∙_, subst}
 use mathlib.Core.Bool.{true, _&&_}
 use mathlib.Core.List.{List}
-use Prim.Native.Nat.{ℕ, _+_, _%_, _≤_}
+use Prim.Native.Nat.{ℕ, _+_, _-_, _%_, _≤_}
 use native.Mathlib.Omega.{arith}
 use lib.ListN.{length, take, drop, length-take, length-drop}
 use lib.Dec.{eqb, leb, lit≤}
 use borrow.Author.Tests.{eqb-true}
 use Rattle.answers.specs.Answer.{Answer, accepted, refused}
 use Rattle.answers.specs.Unit.{frontLength}
-use Rattle.fields.specs.Bytes.{lowest, same}
+use Rattle.fields.specs.Bytes.{lowest, field, same}
 use Rattle.fields.proofs.ByTest.{cond-case}
-use Rattle.chunks.specs.Walk.{headerLength, named, Step, ends, walk}
+use Rattle.chunks.specs.Walk.{headerLength, sizeIn, named, Step, ends, walk}
+use Rattle.chunks.proofs.Headers.{size-there}
 use Rattle.chunks.proofs.Walks.{Visited, cuts, steps, visited}
 use Rattle.chunks.proofs.Deciding.{Comes, comes-further, landing, kept}
 use Rattle.wave.specs.Names.{riff, wave, data′}
@@ -36,6 +37,7 @@ pub record Landed (front : List ℕ) (f : Found) : Type 0 where
   pub whole : place + headerLength ≤ length front
   pub is-data : named (drop place front) data′ ≡ true
   pub start-is : f .start ≡ place + headerLength
+  pub size-is : f .size ≡ sizeIn lowest (drop place front)
   pub rate-known : knownRate (f .rate) ≡ true
 
 -- ---- the finder
@@ -69,6 +71,7 @@ module _ (front : List ℕ) where
             whole = omega (arith, whole, length-drop place front);
             is-data = is-data;
             start-is = refl;
+            size-is = refl;
             rate-known = known good;
           })
       by a (says.refuses l m) = refuses l m
@@ -88,34 +91,46 @@ pub find-told : (lent : List ℕ) → Told (Landed (take frontLength lent)) 24 (
 unfolding findOf
 find-told lent = front-told (take frontLength lent)
 
+pub found-means : (lent : List ℕ) (f : Found) → findOf lent ≡ accepted f → Landed (take frontLength lent) f
+found-means lent f e = by (subst (Told (Landed (take frontLength lent)) 24) e (find-told lent))
+  where
+    by : Told (Landed (take frontLength lent)) 24 (accepted f) → Landed (take frontLength lent) f
+    by (accepts l) = l
+
+-- the length stands in the four bytes before the start
+pub length-field : (front : List ℕ) (f : Found) → Landed front f → f .size ≡ field lowest front (f .start - 4) 4
+length-field front f l =
+    let before : l .place + 4 ≡ f .start - 4 = omega (arith, l .start-is) in
+    l .size-is ∙ size-there lowest front (l .place) ∙ ap (λ (n : ℕ). field lowest front n 4) before
+
 -- ---- the reader
 
 -- .. and its length is whole frames
-pub record Accepted (lent : List ℕ) (f : Found) : Type 0 where
+pub record Acceptable (lent : List ℕ) (f : Found) : Type 0 where
   pub landed : Landed (take frontLength lent) f
   pub whole-frames : f .size % frameSize (f .format) ≡ 0
 
-pub read-told : (lent : List ℕ) → Told (Accepted lent) 25 (readOf lent)
+pub read-told : (lent : List ℕ) → Told (Acceptable lent) 25 (readOf lent)
 unfolding readOf wholeFrames
 read-told lent = by (findOf lent) (find-told lent)
   where
-    by : (a : Answer Found) → Told (Landed (take frontLength lent)) 24 a → Told (Accepted lent) 25 (wholeFrames a)
+    by : (a : Answer Found) → Told (Landed (take frontLength lent)) 24 a → Told (Acceptable lent) 25 (wholeFrames a)
     by (accepted f) (accepts l) =
-        cond-case (Told (Accepted lent) 25) _ _ (eqb (f .size % frameSize (f .format)) 0)
+        cond-case (Told (Acceptable lent) 25) _ _ (eqb (f .size % frameSize (f .format)) 0)
         (λ h. accepts (record { landed = l; whole-frames = eqb-true (f .size % frameSize (f .format)) 0 h })) (λ _. refuses (lit≤ tt) (lit≤ tt))
     by (refused n place) (refuses l m) = refuses l (omega arith)
 
 -- .. of the call's answer
-pub read-answers : (front : List ℕ) (r : Reading) → readAnswer r ≡ readOf front → Told (Accepted front) 25 (readAnswer r)
-read-answers front r e = subst (Told (Accepted front) 25) (sym e) (read-told front)
+pub read-answers : (front : List ℕ) (r : Reading) → readAnswer r ≡ readOf front → Told (Acceptable front) 25 (readAnswer r)
+read-answers front r e = subst (Told (Acceptable front) 25) (sym e) (read-told front)
 
 -- ---- an accepted answer
 
 module _ (lent : List ℕ) (f : Found) where
-  pub accepted-means : readOf lent ≡ accepted f → Accepted lent f
-  accepted-means e = by (subst (Told (Accepted lent) 25) e (read-told lent))
+  pub accepted-means : readOf lent ≡ accepted f → Acceptable lent f
+  accepted-means e = by (subst (Told (Acceptable lent) 25) e (read-told lent))
     where
-      by : Told (Accepted lent) 25 (accepted f) → Accepted lent f
+      by : Told (Acceptable lent) 25 (accepted f) → Acceptable lent f
       by (accepts a) = a
 
   -- the samples start in the front, or right behind it

@@ -1,17 +1,23 @@
 -- The header writer: rows stored one behind the other are the header. Assumes nothing.
 use mathlib.Core.Path.{_≡_, refl, sym, _∙_}
+use mathlib.Core.Bool.{true}
 use mathlib.Core.List.{List, _++_}
-use Prim.Native.Nat.{ℕ, _+_, _*_}
+use Prim.Native.Nat.{ℕ, _*_, _%_, _≤_}
 use lib.ListN.{length}
 use lib.Seq.{sets}
+use borrow.Author.Tests.{eq-eqb, le-leb}
+use Rattle.answers.specs.Checks.{allHold}
+use Rattle.answers.specs.Unit.{largestData}
+use Rattle.answers.proofs.Laws.{all-accept}
 use Rattle.fields.specs.Bytes.{lowest, little, ordered, row}
 use Rattle.fields.proofs.Rows.{length-row, behind, sets-whole}
 use Rattle.chunks.specs.Walk.{chunkHeader}
 use Rattle.chunks.proofs.Headers as chunks
 use Rattle.samples.specs.Format.{bitsOf}
 use Rattle.wave.specs.Names.{riff, wave, fmt, data′}
-use Rattle.wave.specs.Values.{fmtLength, channels, frameSize}
-use Rattle.wave.specs.Header.{written, headerBytes, riffSize, fmtContents, header}
+use Rattle.wave.specs.Values.{fmtLength, channels, frameSize, knownRate}
+use Rattle.wave.specs.Header.{written, headerBytes, riffSize, fmtContents, header, writeChecks, writeOf}
+use Rattle.wave.specs.declared.writer.Written.the-variants.{Header}
 
 -- ---- lengths
 
@@ -55,3 +61,13 @@ header-row rate size l m₁ m₂ m₃ m₄ m₅ whole e₁ e₂ e₃ e₄ e₅ =
     let f₁ : m₅ ≡ sets l 0 (header rate size) =
     behind l m₁ m₅ (chunkHeader lowest riff (riffSize size)) t₂ 0 8 (chunks.length-header lowest riff (riffSize size) refl) e₁ f₂ in
     f₁ ∙ sets-whole l (header rate size) (length-header rate size ∙ sym whole)
+
+-- ---- the call
+
+-- a right call of the writer is accepted
+pub write-accepts : (buffer : List ℕ) (rate size : ℕ) → length buffer ≡ headerBytes → knownRate rate ≡ true → size % frameSize written ≡ 0 → size ≤ largestData →
+    writeOf buffer rate size ≡ record { result = Header headerBytes; lent = header rate size }
+unfolding writeOf allHold
+write-accepts buffer rate size room known whole small =
+    all-accept buffer (header rate size) (Header headerBytes) (writeChecks buffer rate size)
+    (rw (eq-eqb (length buffer) headerBytes room, known, eq-eqb (size % frameSize written) 0 whole, le-leb size largestData small))

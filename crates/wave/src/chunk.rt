@@ -17,7 +17,7 @@ ghost use Prim.Native.Nat.{_+_, _≤_, _<_, _^_};
 ghost use lib.ListN.{length};
 ghost use Rattle.chunks.specs.Walk.{headerLength};
 ghost use Rattle.wave.specs.Values.{fmtLength};
-ghost use Rattle.wave.specs.Walk.{judged, values, fmtChunk, dataChunk, chunk, findAnswer};
+ghost use Rattle.wave.specs.Walk.{values, fmtChunk, dataChunk, chunk, findAnswer};
 ghost use Rattle.wave.specs.Private.{seenOf, stepOf};
 
 // The `fmt ` that the walk has met.
@@ -32,32 +32,20 @@ pub(crate) enum Step {
     On(Seen),
 }
 
-fn judged(coding: Coding, count: u32, rate: u32, byterate: u32, block: u32) -> Step
-    ensures { λ r. ⌜ stepOf r ≡ judged coding count rate byterate block ⌝ }
+fn format_values(rest: &[u8]) -> Step
+    requires { ⌜ headerLength + fmtLength ≤ length (now rest) ⌝ }
+    ensures { λ r. ⌜ stepOf r ≡ values (now (rest .entry)) ⌝ }
 {
-    match coding {
+    match coding_of(two(rest, 8), two(rest, 22)) {
         Coding::Known(format) => {
-            if right(format, count, rate, byterate, block) {
+            let rate = four(rest, 12);
+            if right(format, two(rest, 10), rate, four(rest, 16), two(rest, 20)) {
                 return Step::On(Seen::Sound(rate, format));
             }
             Step::Ends(Finding::Refused(Refusal::WrongFormat))
         }
         Coding::Unknown => Step::Ends(Finding::Refused(Refusal::WrongFormat)),
     }
-}
-
-fn format_values(rest: &[u8]) -> Step
-    requires { ⌜ headerLength + fmtLength ≤ length (now rest) ⌝ }
-    ensures { λ r. ⌜ stepOf r ≡ values (now (rest .entry)) ⌝ }
-{
-    let coding = coding_of(two(rest, 8), two(rest, 22));
-    judged(
-        coding,
-        two(rest, 10),
-        four(rest, 12),
-        four(rest, 16),
-        two(rest, 20),
-    )
 }
 
 fn format_chunk(rest: &[u8], seen: Seen) -> Step
