@@ -1,5 +1,4 @@
--- The walk from chunk to chunk: a turn is one step, as many steps as bytes are never spent, and bytes before the walk's start do not matter.
--- Assumes nothing.
+-- The walk: a turn is one step, as many steps as bytes are never spent, and bytes before its start do not matter. Assumes nothing.
 use mathlib.Core.Path.{_≡_, refl, sym, ap, _∙_}
 use mathlib.Core.Bool.{Bool, true, false, cond}
 use mathlib.Core.List.{List}
@@ -26,6 +25,10 @@ next-further at size = omega (arith, next-behind at size)
 -- a lent rest is the rest
 pub lent-rest : (front : List ℕ) (at : ℕ) → take (length front - at) (drop at front) ≡ drop at front
 lent-rest front at = take-all (length front - at) (drop at front) (simp length-drop (omega arith))
+
+-- .. with its header
+pub lent-header : (front : List ℕ) (at : ℕ) → at + headerLength ≤ length front → headerLength ≤ length (take (length front - at) (drop at front))
+lent-header front at l = rw (lent-rest front at) (simp length-drop (omega arith))
 
 -- rows that agree from a place on agree from any later place on
 drop-same : (k : ℕ) (a b : List ℕ) → drop k a ≡ drop k b → (at : ℕ) → k ≤ at → drop at a ≡ drop at b

@@ -1,5 +1,4 @@
--- No second answer of `find` or `read` fits: the cases have different numbers, and an accepted one has its values. `write` promises
--- its cases themselves, so answers' `one-answer` serves it. Assumes nothing.
+-- No second answer of `find` or `read` fits (`write` promises its case itself: answers' `one-answer` serves it). Assumes nothing.
 use mathlib.Core.Path.{_≡_, refl, ap}
 use mathlib.Core.List.{List, [], _∷_}
 use Prim.Native.Nat.{ℕ, _-_}
