@@ -5,12 +5,10 @@ use mathlib.Core.List.{List}
 use Prim.Native.Nat.{ℕ, _*_, _/_, _%_, _≤_}
 use native.Mathlib.Nat.{div-add-mod, mul-mod-right}
 use native.Mathlib.Omega.{arith}
-use borrow.Author.Tests.{eq-eqb, le-leb}
 use lib.Dec.{ltb}
 use lib.ListN.{length}
 use lib.IntN.{ℤ}
 use Rattle.answers.specs.Answer.{Answer, accepted, refused}
-use Rattle.answers.specs.Checks.{decide}
 use Rattle.answers.specs.Unit.{largestData, frontLength}
 use Rattle.wave.specs.Header.{header, writeOf}
 use Rattle.samples.specs.Format.{sizeOf}
@@ -19,6 +17,7 @@ use Rattle.wave.specs.Walk.{Found, readOf}
 use Rattle.samples.specs.declared.format.Format.{Format}
 use Rattle.wave.specs.declared.writer.Written.the-variants.{Header}
 use Rattle.wave.proofs.Answers.{accepted-rate, accepted-whole}
+use Rattle.wave.proofs.Writing.{write-accepts}
 use Rattle.eqfile.specs.declared.taking.Arguments.{Arguments}
 use Rattle.eqfile.specs.declared.taking.Arguments.the-variants.{Taken}
 use Rattle.eqfile.specs.declared.start.Start.the-variants.{Run}
@@ -101,11 +100,4 @@ module _ {gains : List ℤ} {front : List ℕ} {rate : ℕ} {format : Format} {s
 
   -- the writer accepts the rate and the length of every run that starts, and writes just its header
   pub header-accepted : (buffer : List ℕ) → length buffer ≡ 44 → writeOf buffer rate (3 * samples) ≡ record { result = Header 44; lent = header rate (3 * samples) }
-  unfolding writeOf decide
-  header-accepted buffer l =
-      rw (
-        eq-eqb (length buffer) 44 l,
-        stated .known,
-        eq-eqb (3 * samples % 3) 0 (mul-mod-right 3 samples),
-        le-leb (3 * samples) largestData few-enough,
-      )
+  header-accepted buffer l = write-accepts buffer rate (3 * samples) l (stated .known) (mul-mod-right 3 samples) few-enough
