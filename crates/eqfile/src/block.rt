@@ -7,7 +7,7 @@ ghost use lib.ListN.{replicate};
 ghost use lib.IntN.{pos};
 ghost use Rattle.answers.specs.Checks.{Done};
 ghost use Rattle.answers.specs.Unit.{blockLimit};
-ghost use Rattle.eqfile.specs.Equalise.{Judged, equaliseOf};
+ghost use Rattle.eqfile.specs.Equalise.{lengthsFit, isWritten, equaliseOf};
 
 // What `equalise` answers.
 pub enum Equalised {
@@ -17,30 +17,33 @@ pub enum Equalised {
     Refused,
 }
 
+// Whether a block of n samples, of which so many outputs are dropped, goes into so many bytes.
+fn fits(n: usize, skipped: usize, bytes: usize) -> bool
+    ensures { λ r. ⌜ r ≡ lengthsFit n skipped bytes ⌝ }
+{
+    if BLOCK_LIMIT < n {
+        return false;
+    }
+    if n < skipped {
+        return false;
+    }
+    bytes == 3 * (n - skipped)
+}
+
+fn is_written(blocked: Blocked) -> bool
+    ensures { λ r. ⌜ r ≡ isWritten blocked ⌝ }
+{
+    let Blocked::Written(_) = blocked else {
+        return false;
+    };
+    true
+}
+
 // The outputs of the longest block, before its call.
 fn cleared() -> [i32; BLOCK_LIMIT]
     ensures { λ r. ⌜ r ≡ replicate blockLimit (pos 0) ⌝ }
 {
     [0; BLOCK_LIMIT]
-}
-
-// The block call, and the bytes of its outputs but the first `skipped`. The lengths have been judged.
-fn put(
-    memory: &mut [i32],
-    gains: &[i32],
-    input: &[i32],
-    output: &mut [i32],
-    skipped: usize,
-    stored: &mut [u8],
-) -> Equalised
-    requires { ⌜ Judged (now input) (now output) skipped (now stored) ⌝ }
-    ensures { λ r. ⌜ Done (equaliseOf (now (memory .entry)) (now (gains .entry)) (now (input .entry)) skipped (now (stored .entry))) r (now (memory .exit), now (stored .exit)) ⌝ }
-{
-    let Blocked::Written(_) = block(memory, gains, input, output) else {
-        return Equalised::Refused;
-    };
-    samples::samples_to_bytes(&output[skipped..], stored);
-    Equalised::Bytes(stored.len())
 }
 
 // Equalises a block and stores its outputs but the first `skipped`, three bytes each. The lengths are judged first, so that a
@@ -55,15 +58,13 @@ pub fn equalise(
     ensures { λ r. ⌜ Done (equaliseOf (now (memory .entry)) (now (gains .entry)) (now (input .entry)) skipped (now (stored .entry))) r (now (memory .exit), now (stored .exit)) ⌝ }
 {
     let n = input.len();
-    if BLOCK_LIMIT < n {
-        return Equalised::Refused;
-    }
-    if n < skipped {
-        return Equalised::Refused;
-    }
-    if stored.len() != 3 * (n - skipped) {
+    if !fits(n, skipped, stored.len()) {
         return Equalised::Refused;
     }
     let mut output = cleared();
-    put(memory, gains, input, &mut output[..n], skipped, stored)
+    if !is_written(block(memory, gains, input, &mut output[..n])) {
+        return Equalised::Refused;
+    }
+    samples::samples_to_bytes(&output[skipped..n], stored);
+    Equalised::Bytes(stored.len())
 }

@@ -110,7 +110,7 @@ cut {A} (suc n) (suc m) x h = ap (λ (l : List A). x ∷ l) (cut n m x (omega ar
 equalised-same : (memory gains : List ℤ) {xs ys : List ℤ} {k j : ℕ} {s t : List ℕ} → xs ≡ ys → k ≡ j → s ≡ t → equaliseOf memory gains xs k s ≡ equaliseOf memory gains ys j t
 equalised-same memory gains e f g = λ i. equaliseOf memory gains (e i) (f i) (g i)
 
-module _ (job : Job) (gains : List ℤ) (front : List ℕ) (place : Place) (memory : List ℤ) (turn : Turn) (piece : List ℕ) (came : Came job gains front place memory turn piece) where
+module _ {job : Job} {gains : List ℤ} {front : List ℕ} {place : Place} {memory : List ℤ} {turn : Turn} {piece : List ℕ} (came : Came job gains front place memory turn piece) where
   pub planned : Bounds (job .samples) (place .at) turn
   planned = bounds (job .format) (job .samples) (place .at) (place .read) turn (came .turn-is)
 
@@ -125,7 +125,7 @@ module _ (job : Job) (gains : List ℤ) (front : List ℕ) (place : Place) (memo
       ap (λ (t : Turn). Bytes (t .written)) (sym (came .turn-is))
 
   -- what the code hands to `equalise`, and what it answers
-  module _ (input₀ xs : List ℤ) (bytes₀ : List ℕ) (room : blockLimit ≡ length input₀) (cleared : bytes₀ ≡ replicate (3 * blockLimit) 0)
+  module _ (input₀ : List ℤ) {xs : List ℤ} {bytes₀ : List ℕ} (room : blockLimit ≡ length input₀) (cleared : bytes₀ ≡ replicate (3 * blockLimit) 0)
       (sampled : xs ≡ samplesFrom (length (take (turn .fed) input₀)) (job .format) piece) where
     pub input-long : length (take (turn .fed) input₀) ≡ turn .fed
     input-long = length-take-le (turn .fed) input₀ (omega (arith, planned .fed-most))
@@ -141,7 +141,7 @@ module _ (job : Job) (gains : List ℤ) (front : List ℕ) (place : Place) (memo
         let long : length bytes₀ ≡ 3 * blockLimit = ap length cleared ∙ length-replicate {A = ℕ} (3 * blockLimit) 0 in
         omega (arith, planned .written-most)
 
-    module _ (r : Equalised) (m : List ℤ) (s : List ℕ)
+    module _ {r : Equalised} {m : List ℤ} {s : List ℕ}
         (d : Done (equaliseOf memory gains (take (turn .fed) (xs ++ drop (turn .fed) input₀)) (turn .skipped) (take (turn .written) bytes₀)) r (m, s)) where
       is : equaliseOf memory gains (take (turn .fed) (xs ++ drop (turn .fed) input₀)) (turn .skipped) (take (turn .written) bytes₀) ≡
           blockDone gains (job .format) (job .samples) (stateAt place memory) piece
@@ -165,7 +165,7 @@ module _ (job : Job) (gains : List ℤ) (front : List ℕ) (place : Place) (memo
           clash z = let y : _≡_ {A = ℕ} 0 1 = cc in omega arith
 
       -- all bytes stored are handed over
-      module _ (n : ℕ) (e : r ≡ Bytes n) (l : length s ≡ length (take (turn .written) bytes₀)) where
+      module _ {n : ℕ} (e : r ≡ Bytes n) (l : length s ≡ length (take (turn .written) bytes₀)) where
         long : length s ≡ n
         long = l ∙ length-take-le (turn .written) bytes₀ bytes-there ∙ ap countIn (sym answer-is ∙ e)
           where
@@ -191,7 +191,7 @@ module _ (job : Job) (gains : List ℤ) (front : List ℕ) (place : Place) (memo
 
 -- ---- where a run stands
 
-module _ (job : Job) (gains : List ℤ) (front : List ℕ) (place : Place) (memory : List ℤ) (run : Running job gains front place memory) where
+module _ {job : Job} {gains : List ℤ} {front : List ℕ} {place : Place} {memory : List ℤ} (run : Running job gains front place memory) where
   few : 3 * job .samples ≤ largestData
   few = few-enough (run .started)
 
@@ -199,6 +199,10 @@ module _ (job : Job) (gains : List ℤ) (front : List ℕ) (place : Place) (memo
   at-most =
       subst (λ (s : State). s .at ≤ fedInAll (job .samples)) (sym (run .stands))
       (at-within gains (job .format) (job .samples) fresh (run .pieces) (omega arith))
+
+  -- a block more can be counted
+  pub at-fits : (n : ℕ) → n ≤ blockLimit → Fits w64 (place .at + n)
+  at-fits n h = omega (arith, at-most, few)
 
   read-most : place .read ≤ 3 * job .samples
   read-most =
@@ -208,17 +212,14 @@ module _ (job : Job) (gains : List ℤ) (front : List ℕ) (place : Place) (memo
       let own : sizeOf (job .format) * min (place .at) (job .samples) ≤ 3 * min (place .at) (job .samples) = mul-le-mul-right (min (place .at) (job .samples)) (few-bytes (job .format) .1) in
       omega arith
 
-  module _ (turn : Turn) (is : turn ≡ turnOf (sizeOf (job .format)) (job .samples) (place .at) (place .read)) where
-    limits : Bounds (job .samples) (place .at) turn
+  module _ {turn : Turn} (is : turn ≡ turnOf (sizeOf (job .format)) (job .samples) (place .at) (place .read)) where
+    pub limits : Bounds (job .samples) (place .at) turn
     limits = bounds (job .format) (job .samples) (place .at) (place .read) turn is
-
-    pub at-fits : Fits w64 (place .at + turn .fed)
-    at-fits = omega (arith, limits .fed-left, at-most, few)
 
     pub read-fits : (got : ℕ) → got ≤ turn .wanted → Fits w64 (place .read + got)
     read-fits got h = omega (arith, limits .fed-most, limits .wanted-most, read-most, few)
 
-    module _ (bytes₀ : List ℕ) (cleared : bytes₀ ≡ replicate (3 * blockLimit) 0) where
+    module _ {bytes₀ : List ℕ} (cleared : bytes₀ ≡ replicate (3 * blockLimit) 0) where
       pub wanted-there : turn .wanted ≤ length bytes₀
       wanted-there =
           let long : length bytes₀ ≡ 3 * blockLimit = ap length cleared ∙ length-replicate {A = ℕ} (3 * blockLimit) 0 in
@@ -240,9 +241,9 @@ module _ (job : Job) (gains : List ℤ) (front : List ℕ) (place : Place) (memo
         pub piece-long : length (take got (new ++ drop (turn .wanted) bytes₀)) ≡ got
         piece-long = length-take-le got (new ++ drop (turn .wanted) bytes₀) got-there
 
-        pub piece-came : (from : ℕ) → from ≡ fromOf front (job .start) (place .at) → Fetched front from (length (take (turn .wanted) bytes₀)) (take got new) → fields.Bytes (take got new) →
+        pub piece-came : {from : ℕ} → from ≡ fromOf front (job .start) (place .at) → Fetched front from (length (take (turn .wanted) bytes₀)) (take got new) → fields.Bytes (take got new) →
             Came job gains front place memory turn (take got (new ++ drop (turn .wanted) bytes₀))
-        piece-came from e fetched bytes =
+        piece-came {from} e fetched bytes =
             record {
               running = run;
               turn-is = is;
@@ -254,10 +255,10 @@ module _ (job : Job) (gains : List ℤ) (front : List ℕ) (place : Place) (memo
             }
 
 -- a turn for which bytes came leaves the run further on
-pub further : (job : Job) (gains : List ℤ) (front : List ℕ) (place : Place) (memory after′ : List ℤ) (turn : Turn) (piece : List ℕ) (got : ℕ) → Came job gains front place memory turn piece →
-    length piece ≡ got → after′ ≡ blockDone gains (job .format) (job .samples) (stateAt place memory) piece .lent .0 →
+pub further : {job : Job} {gains : List ℤ} {front : List ℕ} {place : Place} {memory after′ : List ℤ} {turn : Turn} {piece : List ℕ} (got : ℕ) →
+    (came : Came job gains front place memory turn piece) → length piece ≡ got → after′ ≡ blockDone gains (job .format) (job .samples) (stateAt place memory) piece .lent .0 →
     Further job gains front place (On (record { at = place .at + turn .fed; read = place .read + got })) after′
-further job gains front place memory after′ turn piece got came long e = (
+further {job} {gains} {front} {place} {memory} {after′} {turn} {piece} got came long e = (
   record {
     rate = run .rate;
     started = run .started;
@@ -273,7 +274,7 @@ further job gains front place memory after′ turn piece got came long e = (
         (λ i. record { at = place .at + came .turn-is i .fed; read = place .read + sym long i; memory = e i }) ∙
         ap (λ (s : State). next gains (job .format) (job .samples) s piece) (run .stands) ∙ sym (after-more gains (job .format) (job .samples) fresh (run .pieces) piece);
   },
-  λ h. omega (arith, planned job gains front place memory turn piece came .fed-some h),
+  λ h. omega (arith, planned came .fed-some h),
 )
   where
     run : Running job gains front place memory

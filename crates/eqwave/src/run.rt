@@ -9,6 +9,9 @@ use crate::turn::one_turn;
 ghost use Rattle.runs.specs.Started.{Started};
 ghost use Rattle.eqwave.specs.Running.{Begun, Running, Ended};
 
+// As many bands as arguments.
+const BANDS: i32 = eqfile::BANDS as i32;
+
 // Says how many bytes of the data are missing, if any are, after a run that read so many.
 fn missing(job: Job, gains: &[i32], front: &[u8], read: usize)
     requires { ⌜ Ended job (now gains) (now front) read ⌝ }
@@ -54,6 +57,6 @@ pub(crate) fn run(rate: u32, job: Job, gains: &[i32], front: &[u8])
         return;
     }
     let mut memory = buffers::memory();
-    octave::memory::prepare(eqfile::BANDS as i32, &mut memory);
+    octave::memory::prepare(BANDS, &mut memory);
     turns(job, gains, front, &mut memory);
 }

@@ -7,6 +7,7 @@ use crate::place::Place;
 use eqfile::Equalised;
 use eqfile::Turn;
 ghost use mathlib.Core.Path.{_≡_};
+ghost use Rattle.eqfile.specs.declared.block.Equalised.the-variants.{Bytes, Refused};
 ghost use Rattle.runs.specs.Program.{blockDone};
 ghost use Rattle.eqwave.specs.Running.{stateAt, Running, Came, Further};
 
@@ -18,11 +19,15 @@ pub(crate) enum Turned {
     OutputFailed,
 }
 
-// No block of a run is refused.
-fn never() -> bool
-    requires { ⌜ ⊥ ⌝ }
+// The bytes that the block of a turn stored. No block of a run is refused.
+fn count(equalised: Equalised) -> usize
+    requires { ⌜ (equalised ≡ Refused → ⊥) ⌝ }
+    ensures { λ r. ⌜ equalised ≡ Bytes r ⌝ }
 {
-    false
+    match equalised {
+        Equalised::Bytes(n) => n,
+        Equalised::Refused => 0,
+    }
 }
 
 // Equalises the block of a turn for which some bytes came, and hands over what it stores. Answers whether that was taken.
@@ -44,17 +49,14 @@ fn put(
     let written = turn.written;
     let format = job.format;
     eqfile::samples_from(piece, format, &mut input[..fed]);
-    let equalised = eqfile::equalise(
+    let n = count(eqfile::equalise(
         memory,
         gains,
         &input[..fed],
         turn.skipped,
         &mut stored[..written],
-    );
-    match equalised {
-        Equalised::Bytes(n) => output::hand(&stored[..n], job, gains, front),
-        Equalised::Refused => never(),
-    }
+    ));
+    output::hand(&stored[..n], job, gains, front)
 }
 
 // The next turn of a run.

@@ -98,5 +98,5 @@ block-taken m gains input skipped stored s g short range within fits =
       accepts = ap (λ (b : Outcome Blocked (List ℤ × List ℤ)). b .result) ran;
       long = ap (λ (b : Outcome Blocked (List ℤ × List ℤ)). length (b .lent .1)) ran ∙ equalised-long m gains input;
       ready = subst (λ (b : Outcome Blocked (List ℤ × List ℤ)). Ready (b .lent .0)) (sym ran) (still-ready m gains input s);
-      is = equalised-is m gains input skipped stored short within fits held;
+      is = equalised-is m gains input skipped stored (record { short = short; within = within; fit = fits }) held;
     }
