@@ -1,6 +1,6 @@
 -- `block::fits` meets its contract. Assumes nothing.
 use borrow.Author.Needs.{needs}
-use Rattle.wave.proofs.ByTest.{anding}
+use Rattle.fields.proofs.ByTest.{anding}
 use Rattle.eqfile.proofs.block.fits.Statement.{statement}
 use Rattle.eqfile.proofs.block.fits.Tie as tie
 
