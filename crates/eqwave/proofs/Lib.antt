@@ -1,2 +1,5 @@
 pub mod TakenInTurn
-pub mod Turning
+pub mod Fetching
+pub mod Storing
+pub mod Standing
+pub mod Beginning

@@ -1,5 +1,4 @@
--- What a run writes is read back as its outputs; and eight noughts give the data of a 24-bit file back, byte for byte. Both whatever the
--- pieces it was read in. Assumes nothing.
+-- What a run writes is read back as its outputs, and eight noughts give the data of a 24-bit file back, whatever the pieces it was read in. Assumes nothing.
 use mathlib.Core.Path.{_≡_, sym, ap, ap₂, _∙_}
 use mathlib.Core.Bool.{true}
 use mathlib.Core.List.{List, [], _∷_, _++_, append-nil}

@@ -1,4 +1,4 @@
--- The program's run: each turn's block is accepted, and together they write sample n as output n + 1,143, with zeros after the input, however the bytes were handed over. Assumes nothing.
+-- A run's turns are all accepted, and together they write sample n as output n + 1,143, however the bytes were handed over. Assumes nothing.
 use mathlib.Core.Path.{_≡_, refl, sym, ap, ap₂, subst, _∙_}
 use mathlib.Core.List.{List, [], _∷_, _++_}
 use Prim.Native.Nat.{ℕ, _+_, _-_, _*_, _<_, min}

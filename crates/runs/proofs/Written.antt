@@ -1,5 +1,4 @@
--- The samples written: sample n is output n + 1,143, and zeros follow the input. Over any block
--- calls, however the samples were cut. Assumes nothing.
+-- The samples written, over any block calls: sample n is output n + 1,143, and zeros follow the input. Assumes nothing.
 use mathlib.Core.Path.{_≡_, refl, sym, ap, _∙_, fun-ext}
 use mathlib.Core.List.{List, [], _∷_, _++_}
 use Prim.Native.Nat.{ℕ, zero, suc, _+_, _-_, _*_, _≤_, _<_}

@@ -1,6 +1,6 @@
 -- `input::from` meets its contract. Assumes nothing.
 use denote.Ref.{now}
-use Rattle.eqwave.proofs.Turning.{from-start, from-end}
+use Rattle.eqwave.proofs.Fetching.{from-start, from-end}
 use Rattle.eqwave.proofs.input.from.Statement.{statement}
 use Rattle.eqwave.proofs.input.from.Tie as tie
 

@@ -1,7 +1,7 @@
 -- `run::put_header` is safe: the writer accepts, and hands over the header. Assumes nothing.
 use mathlib.Core.Path.{refl}
 use native.Mathlib.Omega.{arith}
-use Rattle.eqwave.proofs.Turning.{header-is, few-samples}
+use Rattle.eqwave.proofs.Beginning.{header-is, few-samples}
 use borrow.Author.Needs.{needs}
 use Rattle.eqwave.proofs.run.put_header.Statement.{statement}
 use Rattle.eqwave.proofs.run.put_header.Tie as tie

@@ -1,6 +1,6 @@
 -- `run::run` is safe: the header is that of the run, and its turns start from a prepared memory. Assumes nothing.
 use denote.Ref.{now}
-use Rattle.eqwave.proofs.Turning.{prepared-is, at-start}
+use Rattle.eqwave.proofs.Beginning.{prepared-is, at-start}
 use borrow.Author.Needs.{needs}
 use Rattle.eqwave.proofs.run.run.Statement.{statement}
 use Rattle.eqwave.proofs.run.run.Tie as tie

@@ -8,7 +8,7 @@ use Rattle.eqfile.specs.Turn.{fedInAll}
 use Rattle.eqwave.specs.declared.turn.Turned.{Turned}
 use Rattle.eqwave.specs.declared.turn.Turned.the-variants.{On}
 use Rattle.eqwave.specs.Running.{Running, Further}
-use Rattle.eqwave.proofs.Turning.{ended}
+use Rattle.eqwave.proofs.Standing.{ended}
 use borrow.Author.Needs.{needs}
 use Rattle.eqwave.proofs.run.turns.Statement.{statement}
 use Rattle.eqwave.proofs.run.turns.Tie as tie

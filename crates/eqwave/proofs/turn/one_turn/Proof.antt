@@ -2,7 +2,7 @@
 use mathlib.Core.Path.{sym}
 use native.Mathlib.Omega.{arith}
 use lib.Seq.{length-take-le}
-use Rattle.eqwave.proofs.Turning.{limits, at-fits, read-fits, wanted-there, got-few, got-there, piece-long, piece-came, further}
+use Rattle.eqwave.proofs.Standing.{limits, at-fits, read-fits, wanted-there, got-few, got-there, piece-long, piece-came, further}
 use borrow.Author.Needs.{needs}
 use Rattle.eqwave.proofs.turn.one_turn.Statement.{statement}
 use Rattle.eqwave.proofs.turn.one_turn.Tie as tie

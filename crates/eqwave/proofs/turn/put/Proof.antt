@@ -2,7 +2,7 @@
 use mathlib.Core.Path.{sym}
 use native.Mathlib.Omega.{arith}
 use lib.Seq.{length-take-le}
-use Rattle.eqwave.proofs.Turning.{planned, samples-there, bytes-there, memory-is, not-refused, stored-there, due}
+use Rattle.eqwave.proofs.Storing.{planned, samples-there, bytes-there, memory-is, not-refused, stored-there, due}
 use borrow.Author.Needs.{needs}
 use Rattle.eqwave.proofs.turn.put.Statement.{statement}
 use Rattle.eqwave.proofs.turn.put.Tie as tie
