@@ -10,10 +10,9 @@ use mir.Syntax.{w8}
 use mir.Val.{Fits}
 use lib.ListN.{length, getD, take, drop, length-append, length-take, length-drop}
 use lib.Seq.{take-all, take-at, take-append-add, take-append-le, length-take-le}
-use Rattle.wave.proofs.RoundTrips as Wave
 use Rattle.eqfile.specs.declared.block.Equalised.the-variants.{Bytes}
 use Rattle.eqfile.specs.Front.{carryOf}
-use Rattle.runs.specs.Program.{fromOf, Fetched}
+use Rattle.runs.specs.Program.{AllBytes, fromOf, Fetched}
 use Rattle.runs.proofs.AllAsked.{bytes-take}
 
 pub from-start : (front : List ℕ) (start at : ℕ) → at ≡ 0 → start ≡ fromOf front start at
@@ -50,7 +49,7 @@ module _ (front bytes : List ℕ) (from had : ℕ) (held : List ℕ) (e : (had, 
 
   pub came-in : (got : ℕ) (new : List ℕ) → got ≤ length new → length new ≡ length (take (length held - had) (drop had held)) →
       ((i : ℕ) → Fits w8 (getD (putMid had (length held - had) held new) i 0)) →
-      let piece = take (had + got) (putMid had (length held - had) held new) in Fetched front from (length bytes) piece × ((had + got ≤ length bytes) × Wave.Bytes piece)
+      let piece = take (had + got) (putMid had (length held - had) held new) in Fetched front from (length bytes) piece × ((had + got ≤ length bytes) × AllBytes piece)
   came-in got new g l each =
       let rest = drop (length held - had) (drop had held) in
       let whole = putMid had (length held - had) held new in

@@ -11,12 +11,11 @@ use lib.Seq.{take-append-le, length-take-le}
 use lib.IntN.{ℤ}
 use Rattle.answers.specs.Unit.{blockLimit, largestData}
 use Rattle.wave.specs.Values.{sizeOf}
-use Rattle.wave.proofs.RoundTrips as Wave
 use Rattle.eqfile.specs.declared.block.Equalised.the-variants.{Bytes}
 use Rattle.eqfile.specs.declared.turn.Turn.{Turn}
 use Rattle.eqfile.specs.Turn.{fedInAll, turnOf}
 use Rattle.eqfile.proofs.Turns.{Bounds, bounds, few-bytes}
-use Rattle.runs.specs.Program.{State, fresh, Follows, handed, turnAt, blockDone, next, fromOf, Fetched}
+use Rattle.runs.specs.Program.{AllBytes, State, fresh, Follows, handed, turnAt, blockDone, next, fromOf, Fetched}
 use Rattle.runs.proofs.BlockCalls.{read-within, read-is}
 use Rattle.runs.proofs.OneMore.{after-more, followed-more, fetched-more, at-within}
 use Rattle.runs.proofs.Starting.{few-enough}
@@ -76,13 +75,13 @@ module _ {job : Job} {gains : List ℤ} {front : List ℕ} {place : Place} {memo
         pub piece-long : length (take got (new ++ drop (turn .wanted) bytes₀)) ≡ got
         piece-long = length-take-le got (new ++ drop (turn .wanted) bytes₀) got-there
 
-        pub piece-came : {from : ℕ} → from ≡ fromOf front (job .start) (place .at) → Fetched front from (length (take (turn .wanted) bytes₀)) (take got new) → Wave.Bytes (take got new) →
+        pub piece-came : {from : ℕ} → from ≡ fromOf front (job .start) (place .at) → Fetched front from (length (take (turn .wanted) bytes₀)) (take got new) → AllBytes (take got new) →
             Came job gains front place memory turn (take got (new ++ drop (turn .wanted) bytes₀))
         piece-came {from} e fetched bytes =
             record {
               running = run;
               turn-is = is;
-              follows = record { read-most = omega (arith, piece-long, got-few); bytes = subst Wave.Bytes (sym piece-is) bytes };
+              follows = record { read-most = omega (arith, piece-long, got-few); bytes = subst AllBytes (sym piece-is) bytes };
               fetched =
                   subst (λ (l : List ℕ). Fetched front (fromOf front (job .start) (place .at)) (turn .wanted) l) (sym piece-is)
                   (subst (λ (n : ℕ). Fetched front (fromOf front (job .start) (place .at)) n (take got new)) wanted-long

@@ -2,8 +2,7 @@
 ghost use Prim.Native.Nat.{_≤_};
 ghost use mathlib.Core.Path.{_≡_};
 ghost use lib.ListN.{length, take};
-ghost use Rattle.wave.proofs.RoundTrips.{Bytes};
-ghost use Rattle.runs.specs.Program.{Fetched, fromOf};
+ghost use Rattle.runs.specs.Program.{AllBytes, Fetched, fromOf};
 
 // Fills the bytes from standard input, and answers how many came.
 pub(crate) fn fill(bytes: &mut [u8]) -> usize
@@ -23,7 +22,7 @@ pub(crate) fn from(front: &[u8], start: usize, at: usize) -> usize
 pub(crate) fn fetch(front: &[u8], from: usize, bytes: &mut [u8]) -> usize
     ensures { λ r. ⌜ Fetched (now (front .entry)) from (length (now (bytes .entry))) (take r (now (bytes .exit))) ⌝ }
     ensures { λ r. ⌜ r ≤ length (now (bytes .entry)) ⌝ }
-    ensures { λ r. ⌜ Bytes (take r (now (bytes .exit))) ⌝ }
+    ensures { λ r. ⌜ AllBytes (take r (now (bytes .exit))) ⌝ }
 {
     let had = eqfile::carry(front, from, bytes);
     had + fill(&mut bytes[had..])

@@ -27,10 +27,14 @@ pub record State : Type 0 where
 abbrev pub fresh : State
 fresh = record { at = 0; read = 0; memory = prepared bands }
 
+-- rule 10.11: each of some numbers is a byte
+abbrev pub AllBytes : List ℕ → Type 0
+AllBytes s = (i : ℕ) → getD s i 0 < 256
+
 -- rule 10.11: the bytes that were read for a turn by the plan: no more than it wants, fewer if data ends early
 pub record Follows (turn : Turn) (piece : List ℕ) : Type 0 where
   pub read-most : length piece ≤ turn .wanted
-  pub bytes : (i : ℕ) → getD piece i 0 < 256
+  pub bytes : AllBytes piece
 
 -- rule 10.11: the data bytes read, joined
 unfoldable pub handed : List (List ℕ) → List ℕ
