@@ -10,7 +10,6 @@ use mir.Syntax.{w8}
 use mir.Val.{Fits}
 use lib.ListN.{length, getD, take, drop, length-append, length-take, length-drop}
 use lib.Seq.{take-all, take-at, take-append-add, take-append-le, length-take-le}
-use Rattle.eqfile.specs.declared.block.Equalised.the-variants.{Bytes}
 use Rattle.eqfile.specs.Front.{carryOf}
 use Rattle.runs.specs.Program.{AllBytes, fromOf, Fetched}
 use Rattle.runs.proofs.AllAsked.{bytes-take}

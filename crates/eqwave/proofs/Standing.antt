@@ -11,7 +11,6 @@ use lib.Seq.{take-append-le, length-take-le}
 use lib.IntN.{ℤ}
 use Rattle.answers.specs.Unit.{blockLimit, largestData}
 use Rattle.wave.specs.Values.{sizeOf}
-use Rattle.eqfile.specs.declared.block.Equalised.the-variants.{Bytes}
 use Rattle.eqfile.specs.declared.turn.Turn.{Turn}
 use Rattle.eqfile.specs.Turn.{fedInAll, turnOf}
 use Rattle.eqfile.proofs.Turns.{Bounds, bounds, few-bytes}
