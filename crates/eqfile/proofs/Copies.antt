@@ -47,10 +47,3 @@ module _ (front bytes : List ℕ) (from left n : ℕ) (there : left ≡ length f
       let k : from + n - from ≡ n = omega arith in
       ap (λ (l : List ℕ). (n, l ++ drop n bytes)) (e ∙ ap (λ (j : ℕ). take j (drop from front)) k) ∙
       ap (λ (j : ℕ). (j, take j (drop from front) ++ drop j bytes)) (is ∙ ap (λ (j : ℕ). min j (length bytes)) there)
-
--- what was carried is within the bytes
-pub carry-within : (front bytes new : List ℕ) (from n : ℕ) → (n, new) ≡ carryOf front from bytes → n ≤ length bytes
-unfolding carryOf
-carry-within front bytes new from n e =
-    let l : n ≡ min (length front - from) (length bytes) = ap (λ (x : ℕ × List ℕ). x .0) e in
-    omega arith

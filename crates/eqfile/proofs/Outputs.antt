@@ -13,7 +13,7 @@ use Rattle.answers.specs.Judging.{allRefuse}
 use Rattle.answers.specs.Range.{within, firstOutside, allWithin}
 use Rattle.answers.specs.Unit.{leastSample, mostSample, unity}
 use Rattle.answers.proofs.Ranges.{all-cons, cons-all}
-use Rattle.answers.proofs.Laws.{all-accept, decided, unnumbered-holds, chosen-fails, refused-keeps}
+use Rattle.answers.proofs.Laws.{all-accept, decided, unnumbered-holds, refused-keeps}
 use Rattle.whole.specs.Nearest.{nearest}
 use Rattle.whole.proofs.Limit.{limit-least, limit-most}
 use Rattle.tree.specs.Prototype.{published}
@@ -107,11 +107,5 @@ module _ (m gains input before : List ℤ) where
       (sym (ap (λ (q : Blocked). numberIn (blockAnswer q)) (decided (m, before) (equalised m gains input) r cs)) ∙ e)
 
   -- one with a number was refused, and leaves what was lent
-  pub refused-held : (numberIn (blockAnswer (blockOf m gains input before .result)) ≡ 0 → ⊥) → allHold (blockChecks m gains input before) ≡ false
-  refused-held n =
-      let cs = blockChecks m gains input before in
-      let r = Written (length input) in
-      chosen-fails blockAnswer cs r (λ z. n (ap (λ (q : Blocked). numberIn (blockAnswer q)) (decided (m, before) (equalised m gains input) r cs) ∙ z)) refl
-
   pub refused-kept : (numberIn (blockAnswer (blockOf m gains input before .result)) ≡ 0 → ⊥) → blockOf m gains input before .lent ≡ (m, before)
   refused-kept n = refused-keeps blockAnswer (blockChecks m gains input before) (m, before) (equalised m gains input) (Written (length input)) n refl

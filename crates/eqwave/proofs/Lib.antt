@@ -3,3 +3,4 @@ pub mod Fetching
 pub mod Storing
 pub mod Standing
 pub mod Beginning
+pub mod Handed

@@ -46,7 +46,7 @@ module _ {job : Job} {gains : List ℤ} {front : List ℕ} {place : Place} {memo
   -- what the code hands to `equalise`, and what it answers
   module _ (input₀ : List ℤ) {xs : List ℤ} {bytes₀ : List ℕ} (room : blockLimit ≡ length input₀) (cleared : bytes₀ ≡ replicate (3 * blockLimit) 0)
       (sampled : xs ≡ samplesFrom (length (take (turn .fed) input₀)) (job .format) piece) where
-    pub input-long : length (take (turn .fed) input₀) ≡ turn .fed
+    input-long : length (take (turn .fed) input₀) ≡ turn .fed
     input-long = length-take-le (turn .fed) input₀ (omega (arith, planned .fed-most))
 
     xs-long : length xs ≡ turn .fed
