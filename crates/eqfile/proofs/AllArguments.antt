@@ -11,15 +11,15 @@ use lib.Dec.{eqb, leb}
 use lib.ListN.{length, set, length-append}
 use lib.IntN.{ℤ}
 use Rattle.answers.specs.Answer.{Answer, accepted, refused}
-use Rattle.eqfile.specs.declared.half.Argument.{Argument}
-use Rattle.eqfile.specs.declared.half.Argument.the-variants as argument
-use Rattle.eqfile.specs.declared.taking.Arguments.{Arguments}
-use Rattle.eqfile.specs.declared.taking.Arguments.the-variants.{Taken, Refused}
-use Rattle.eqfile.specs.Argument.{argumentOf}
-use Rattle.eqfile.specs.Arguments.{bands, put, another, with, eachGain, argumentsOf, allOf}
+use Rattle.arguments.specs.declared.half.Argument.{Argument}
+use Rattle.arguments.specs.declared.half.Argument.the-variants as argument
+use Rattle.arguments.specs.declared.taking.Arguments.{Arguments}
+use Rattle.arguments.specs.declared.taking.Arguments.the-variants.{Taken, Refused}
+use Rattle.arguments.specs.Argument.{argumentOf}
+use Rattle.arguments.specs.Arguments.{bands, put, another, with, eachGain, argumentsOf, allOf}
 use Rattle.eqfile.specs.Start.{startOf}
 use Rattle.eqfile.proofs.StartOrder.{arguments-refused, not-eight}
-use Rattle.eqfile.proofs.NextArgument.{comes-to}
+use Rattle.arguments.proofs.NextArgument.{comes-to}
 
 -- ---- refused once, refused for good
 

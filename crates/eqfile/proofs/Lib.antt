@@ -1,6 +1,3 @@
-pub mod ArgumentText
-pub mod ArgumentGain
-pub mod NextArgument
 pub mod StartOrder
 pub mod Turns
 pub mod Copies

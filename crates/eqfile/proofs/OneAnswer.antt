@@ -8,7 +8,7 @@ use Rattle.answers.specs.Answer.{Answer, accepted, refused}
 use Rattle.answers.proofs.Laws.{one-case}
 use Rattle.wave.specs.declared.refusal.Refusal.the-variants as header
 use Rattle.wave.proofs.OneAnswer.{refusal-back}
-use Rattle.eqfile.specs.declared.taking.Arguments.{Arguments}
+use Rattle.arguments.specs.declared.taking.Arguments.{Arguments}
 use Rattle.eqfile.specs.declared.refusal.Refusal.{Refusal}
 use Rattle.eqfile.specs.declared.refusal.Refusal.the-variants as refusal
 use Rattle.eqfile.specs.declared.start.Start.{Start}

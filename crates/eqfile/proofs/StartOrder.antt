@@ -12,9 +12,9 @@ use Rattle.samples.specs.Format.{sizeOf}
 use Rattle.wave.specs.Walk.{Found, readOf, readAnswer}
 use Rattle.samples.specs.declared.format.Format.{Format}
 use Rattle.wave.specs.declared.reader.Reading.the-variants.{Accepted}
-use Rattle.eqfile.specs.declared.taking.Arguments.{Arguments}
-use Rattle.eqfile.specs.declared.taking.Arguments.the-variants as arguments
-use Rattle.eqfile.specs.Arguments.{bands}
+use Rattle.arguments.specs.declared.taking.Arguments.{Arguments}
+use Rattle.arguments.specs.declared.taking.Arguments.the-variants as arguments
+use Rattle.arguments.specs.Arguments.{bands}
 use Rattle.eqfile.specs.Start.{Plan, planFor, planOf, startOf}
 
 pub reader-refuses : (k : ℕ) → refused k 0 ≡ planOf (refused k 0)

@@ -13,7 +13,7 @@ use Rattle.answers.specs.Unit.{blockLimit}
 use Rattle.tree.specs.Prototype.{published}
 use Rattle.tree.specs.Tree.{delay}
 use Rattle.eqfile.specs.declared.turn.Turn.{Turn}
-use Rattle.eqfile.specs.Arguments.{bands}
+use Rattle.arguments.specs.Arguments.{bands}
 use Rattle.eqfile.specs.Turn.{late, fedInAll, allRead, wantedOf, turnOf}
 
 -- output n + `late` is sample n: the program waits for the delay of its bands

@@ -1,5 +1,3 @@
-pub mod Argument
-pub mod Arguments
 pub mod Start
 pub mod Turn
 pub mod Front

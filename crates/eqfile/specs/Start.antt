@@ -9,9 +9,9 @@ use Rattle.samples.specs.Format.{sizeOf}
 use Rattle.samples.specs.declared.format.Format.{Format}
 use Rattle.wave.specs.Walk.{Found, readOf}
 use Rattle.wave.specs.Walk as wave
-use Rattle.eqfile.specs.declared.taking.Arguments.{Arguments}
-use Rattle.eqfile.specs.declared.taking.Arguments.the-variants as arguments
-use Rattle.eqfile.specs.Arguments.{bands}
+use Rattle.arguments.specs.declared.taking.Arguments.{Arguments}
+use Rattle.arguments.specs.declared.taking.Arguments.the-variants as arguments
+use Rattle.arguments.specs.Arguments.{bands}
 use Rattle.eqfile.specs.declared.refusal.Refusal.{Refusal}
 use Rattle.eqfile.specs.declared.refusal.Refusal.the-variants as refusal
 use Rattle.eqfile.specs.declared.start.Start.{Start}

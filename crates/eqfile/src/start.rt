@@ -1,8 +1,8 @@
 // How a run starts: the checks in their order.
 use crate::refusal::Refusal;
-use crate::taking::Arguments;
-use crate::taking::BANDS;
 use answers::unit::LARGEST_DATA;
+use arguments::Arguments;
+use arguments::BANDS;
 use samples::Format;
 use samples::bytes_each;
 use wave::Reading;

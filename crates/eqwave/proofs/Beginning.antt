@@ -11,7 +11,7 @@ use Rattle.octave.specs.declared.memory.Prepared.{Prepared}
 use Rattle.octave.specs.Memory.{memoryLength, prepared, prepareOf}
 use Rattle.wave.specs.Header.{header, writeOf}
 use Rattle.wave.specs.declared.writer.Written.{Written}
-use Rattle.eqfile.specs.Arguments.{bands}
+use Rattle.arguments.specs.Arguments.{bands}
 use Rattle.runs.specs.Program.{after, Followed, AllFetched}
 use Rattle.runs.specs.Started.{Started}
 use Rattle.runs.proofs.Starting.{few-enough, header-accepted}

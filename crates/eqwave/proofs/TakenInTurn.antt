@@ -3,9 +3,9 @@ use mathlib.Core.Path.{_≡_, refl, ap, _∙_}
 use mathlib.Core.List.{List, [], _∷_, _++_}
 use Prim.Native.Nat.{ℕ}
 use lib.IntN.{ℤ}
-use Rattle.eqfile.specs.declared.taking.Arguments.{Arguments}
-use Rattle.eqfile.specs.declared.taking.Arguments.the-variants.{Taken}
-use Rattle.eqfile.specs.Arguments.{another, allOf}
+use Rattle.arguments.specs.declared.taking.Arguments.{Arguments}
+use Rattle.arguments.specs.declared.taking.Arguments.the-variants.{Taken}
+use Rattle.arguments.specs.Arguments.{another, allOf}
 use Rattle.eqwave.specs.Arguments.{OneTaken, AllTaken}
 
 pub none-taken : (gains : List ℤ) → AllTaken gains (Taken 0) gains

@@ -3,9 +3,9 @@ use mathlib.Core.Path.{_≡_}
 use mathlib.Core.List.{List}
 use Prim.Native.Nat.{ℕ}
 use lib.IntN.{ℤ}
-use Rattle.eqfile.specs.declared.taking.Arguments.{Arguments}
-use Rattle.eqfile.specs.declared.taking.Arguments.the-variants as arguments
-use Rattle.eqfile.specs.Arguments.{another, allOf}
+use Rattle.arguments.specs.declared.taking.Arguments.{Arguments}
+use Rattle.arguments.specs.declared.taking.Arguments.the-variants as arguments
+use Rattle.arguments.specs.Arguments.{another, allOf}
 
 -- rule 10.3: one more argument was taken, of some bytes
 pub record OneTaken (before : Arguments) (gains : List ℤ) (after : Arguments) (gains′ : List ℤ) : Type 0 where

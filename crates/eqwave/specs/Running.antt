@@ -5,9 +5,9 @@ use Prim.Native.Nat.{ℕ, _≤_, _<_}
 use lib.ListN.{length, replicate}
 use lib.IntN.{ℤ, pos}
 use Rattle.answers.specs.Unit.{frontLength}
-use Rattle.eqfile.specs.declared.taking.Arguments.{Arguments}
+use Rattle.arguments.specs.declared.taking.Arguments.{Arguments}
 use Rattle.eqfile.specs.declared.turn.Turn.{Turn}
-use Rattle.eqfile.specs.Arguments.{bands}
+use Rattle.arguments.specs.Arguments.{bands}
 use Rattle.eqfile.specs.Turn.{fedInAll}
 use Rattle.runs.specs.Program.{State, fresh, Follows, handed, turnAt, blockDone, after, Followed, ByPlan, fromOf, Fetched, AllFetched}
 use Rattle.runs.specs.Started.{Started}

@@ -5,7 +5,7 @@ ghost use Prim.Native.Nat.{_*_};
 ghost use lib.ListN.{length, replicate};
 ghost use Rattle.answers.specs.Unit.{blockLimit};
 ghost use Rattle.octave.specs.Memory.{memoryLength};
-ghost use Rattle.eqfile.specs.Arguments.{bands};
+ghost use Rattle.arguments.specs.Arguments.{bands};
 
 // Three bytes for each sample of a block.
 const BYTES: usize = 3 * BLOCK_LIMIT;

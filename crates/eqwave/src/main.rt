@@ -1,23 +1,23 @@
 // The program `eqwave`: it reads, calls and writes. What it decides, `eqfile` decides.
 use crate::place::Job;
-use eqfile::Arguments;
+use arguments::Arguments;
 use eqfile::Start;
 ghost use Rattle.eqwave.specs.Running.{Before};
 
-mod arguments;
 mod buffers;
 mod input;
 mod output;
 mod place;
 mod run;
 mod say;
+mod taking;
 mod turn;
 
 fn main() {
-    let mut gains = [0i32; eqfile::BANDS];
+    let mut gains = [0i32; arguments::BANDS];
     let mut front = io::buffer();
-    let arguments = arguments::take(&mut gains);
-    let wanted = eqfile::front_wanted(arguments);
+    let arguments = taking::take(&mut gains);
+    let wanted = arguments::front_wanted(arguments);
     let got = input::fill(&mut front[..wanted]);
     begin(arguments, &front[..got], &gains);
 }

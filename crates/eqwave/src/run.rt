@@ -10,7 +10,7 @@ ghost use Rattle.runs.specs.Started.{Started};
 ghost use Rattle.eqwave.specs.Running.{Begun, Running, Ended};
 
 // As many bands as arguments.
-const BANDS: i32 = eqfile::BANDS as i32;
+const BANDS: i32 = arguments::BANDS as i32;
 
 // Says how many bytes of the data are missing, if any are, after a run that read so many.
 fn missing(job: Job, gains: &[i32], front: &[u8], read: usize)

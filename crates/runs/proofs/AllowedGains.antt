@@ -12,11 +12,11 @@ use Rattle.answers.specs.Answer.{Answer, accepted, refused}
 use Rattle.answers.specs.Unit.{largestGain}
 use Rattle.answers.specs.Range.{within, allWithin}
 use Rattle.answers.proofs.Ranges.{cons-all}
-use Rattle.eqfile.specs.declared.half.Argument.{Argument}
-use Rattle.eqfile.specs.declared.half.Argument.the-variants.{Gain, Refused}
-use Rattle.eqfile.specs.Argument.{argumentOf}
-use Rattle.eqfile.specs.Arguments.{bands, with, eachGain, argumentsOf}
-use Rattle.eqfile.proofs.ArgumentGain.{gain-small}
+use Rattle.arguments.specs.declared.half.Argument.{Argument}
+use Rattle.arguments.specs.declared.half.Argument.the-variants.{Gain, Refused}
+use Rattle.arguments.specs.Argument.{argumentOf}
+use Rattle.arguments.specs.Arguments.{bands, with, eachGain, argumentsOf}
+use Rattle.arguments.proofs.ArgumentGain.{gain-small}
 use Rattle.eqfile.proofs.Outputs.{none-within}
 use Rattle.runs.proofs.NeverRefused.{Allowed}
 

@@ -23,7 +23,7 @@ use Rattle.samples.specs.declared.format.Format.{Format}
 use Rattle.samples.specs.declared.format.Format.the-variants.{Bits24}
 use Rattle.fields.specs.Bytes.{Bytes}
 use Rattle.samples.proofs.Singles.{block-there-and-back, bytes-there-and-back}
-use Rattle.eqfile.specs.Arguments.{bands, argumentsOf}
+use Rattle.arguments.specs.Arguments.{bands, argumentsOf}
 use Rattle.eqfile.specs.Data.{samplesFrom}
 use Rattle.eqfile.specs.Turn.{late}
 use Rattle.runs.specs.Program.{State, fresh, handed, next, Followed, ByPlan, programWrites}

@@ -21,7 +21,7 @@ use Rattle.samples.specs.declared.format.Format.{Format}
 use Rattle.samples.proofs.Storing.{length-bytes, bytes-append}
 use Rattle.eqfile.specs.declared.block.Equalised.{Equalised}
 use Rattle.eqfile.specs.declared.block.Equalised.the-variants.{Bytes}
-use Rattle.eqfile.specs.Arguments.{bands, argumentsOf}
+use Rattle.arguments.specs.Arguments.{bands, argumentsOf}
 use Rattle.eqfile.specs.Data.{samplesFrom}
 use Rattle.eqfile.specs.Turn.{late, turnOf}
 use Rattle.eqfile.specs.Equalise.{zeros, blockFor}

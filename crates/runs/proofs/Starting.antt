@@ -18,10 +18,10 @@ use Rattle.samples.specs.declared.format.Format.{Format}
 use Rattle.wave.specs.declared.writer.Written.the-variants.{Header}
 use Rattle.wave.proofs.Answers.{accepted-rate, accepted-whole}
 use Rattle.wave.proofs.Writing.{write-accepts}
-use Rattle.eqfile.specs.declared.taking.Arguments.{Arguments}
-use Rattle.eqfile.specs.declared.taking.Arguments.the-variants.{Taken}
+use Rattle.arguments.specs.declared.taking.Arguments.{Arguments}
+use Rattle.arguments.specs.declared.taking.Arguments.the-variants.{Taken}
 use Rattle.eqfile.specs.declared.start.Start.the-variants.{Run}
-use Rattle.eqfile.specs.Arguments.{bands, allOf, argumentsOf}
+use Rattle.arguments.specs.Arguments.{bands, allOf, argumentsOf}
 use Rattle.eqfile.specs.Start.{Plan, planFor, planOf, startOf, startAnswer}
 use Rattle.eqfile.proofs.StartOrder.{Writable, writable}
 use Rattle.eqfile.proofs.AllArguments.{Promised, arguments-promise}

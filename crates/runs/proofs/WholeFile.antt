@@ -20,7 +20,7 @@ use Rattle.samples.specs.declared.format.Format.the-variants.{Bits24}
 use Rattle.wave.specs.declared.writer.Written.{Written}
 use Rattle.wave.proofs.Writing.{length-header}
 use Rattle.wave.proofs.RoundTrips.{foundIn, header-read-back}
-use Rattle.eqfile.specs.Arguments.{bands}
+use Rattle.arguments.specs.Arguments.{bands}
 use Rattle.eqfile.specs.Data.{samplesFrom}
 use Rattle.eqfile.specs.Turn.{late}
 use Rattle.runs.specs.Program.{fresh, handed, ByPlan, programWrites}

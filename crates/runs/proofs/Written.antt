@@ -26,8 +26,8 @@ use Rattle.history.proofs.WholeHistory.{whole-history, output-at, carried-here,
 use Rattle.answers.specs.Unit.{leastSample, mostSample, unity}
 use Rattle.gain.specs.Table.{entry, gains}
 use Rattle.answers.specs.Answer.{accepted}
-use Rattle.eqfile.specs.Argument.{placeOf, argumentOf}
-use Rattle.eqfile.specs.Arguments.{bands, eachGain, argumentsOf}
+use Rattle.arguments.specs.Argument.{placeOf, argumentOf}
+use Rattle.arguments.specs.Arguments.{bands, eachGain, argumentsOf}
 use Rattle.eqfile.specs.Turn.{late}
 
 -- every call has the same gains

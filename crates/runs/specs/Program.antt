@@ -13,7 +13,7 @@ use Rattle.samples.specs.Format.{sizeOf}
 use Rattle.samples.specs.declared.format.Format.{Format}
 use Rattle.eqfile.specs.declared.block.Equalised.{Equalised}
 use Rattle.eqfile.specs.declared.turn.Turn.{Turn}
-use Rattle.eqfile.specs.Arguments.{bands}
+use Rattle.arguments.specs.Arguments.{bands}
 use Rattle.eqfile.specs.Data.{samplesFrom}
 use Rattle.eqfile.specs.Turn.{fedInAll, turnOf}
 use Rattle.eqfile.specs.Equalise.{equaliseOf}

@@ -8,9 +8,9 @@ use Rattle.answers.specs.Answer.{accepted}
 use Rattle.answers.specs.Unit.{frontLength}
 use Rattle.wave.specs.Header.{header}
 use Rattle.samples.specs.declared.format.Format.{Format}
-use Rattle.eqfile.specs.declared.taking.Arguments.the-variants.{Taken}
+use Rattle.arguments.specs.declared.taking.Arguments.the-variants.{Taken}
 use Rattle.eqfile.specs.declared.start.Start.the-variants.{Run}
-use Rattle.eqfile.specs.Arguments.{bands, argumentsOf}
+use Rattle.arguments.specs.Arguments.{bands, argumentsOf}
 use Rattle.eqfile.specs.Start.{startOf, startAnswer}
 use Rattle.runs.specs.Program.{fresh, programWrites}
 

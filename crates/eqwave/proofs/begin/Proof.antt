@@ -3,7 +3,7 @@ use mathlib.Core.Path.{refl, sym, ap, _∙_}
 use denote.Ref.{now}
 use lib.ListN.{replicate}
 use lib.IntN.{pos}
-use Rattle.eqfile.specs.Arguments.{bands}
+use Rattle.arguments.specs.Arguments.{bands}
 use Rattle.eqfile.specs.Start.{startAnswer}
 use Rattle.runs.proofs.Starting.{started}
 use borrow.Author.Needs.{needs}

@@ -5,7 +5,7 @@ use native.Mathlib.Omega.{arith}
 use mathlib.Core.List.{_++_}
 use lib.ListN.{length, drop, length-append, length-take}
 use lib.Seq.{length-take-le}
-use Rattle.eqfile.proofs.NextArgument.{front-few}
+use Rattle.arguments.proofs.NextArgument.{front-few}
 use borrow.Author.Needs.{needs}
 use Rattle.eqwave.proofs.main.Statement.{statement}
 use Rattle.eqwave.proofs.main.Tie as tie

@@ -1,7 +1,7 @@
 -- `start::begin` meets its contract: the arguments, then the header, then the length. Assumes nothing.
 use mathlib.Core.Path.{sym, ap, _∙_}
 use denote.Ref.{now}
-use Rattle.eqfile.specs.declared.taking.Arguments.{Arguments}
+use Rattle.arguments.specs.declared.taking.Arguments.{Arguments}
 use Rattle.eqfile.specs.Start.{planOf, startOf, startAnswer}
 use Rattle.eqfile.proofs.StartOrder.{arguments-refused, not-eight, eight}
 use borrow.Author.Needs.{needs}

@@ -1,0 +1,3 @@
+pub mod ArgumentText
+pub mod ArgumentGain
+pub mod NextArgument
