@@ -15,8 +15,9 @@ use Rattle.arguments.specs.Arguments.{bands}
 use Rattle.runs.specs.Program.{after, Followed, AllFetched}
 use Rattle.runs.specs.Started.{Started}
 use Rattle.runs.proofs.Starting.{few-enough, header-accepted}
-use Rattle.eqwave.specs.declared.place.Job.{Job}
-use Rattle.eqwave.specs.Running.{Begun, Running}
+use Rattle.turning.specs.declared.place.Job.{Job}
+use Rattle.eqwave.specs.Started.{Begun}
+use Rattle.turning.specs.Running.{Running}
 
 -- ---- the header
 

@@ -12,8 +12,8 @@ use Rattle.runs.proofs.OneMore.{writes-more}
 use Rattle.runs.proofs.Starting.{stated}
 use Rattle.runs.proofs.DataRead.{short-adds-up, front-first}
 use Rattle.runs.proofs.WholeFile.{file-length}
-use Rattle.eqwave.specs.declared.place.Job.{Job}
-use Rattle.eqwave.specs.Running.{Due, Ended}
+use Rattle.turning.specs.declared.place.Job.{Job}
+use Rattle.turning.specs.Running.{Due, Ended}
 
 -- what is handed over follows what the turns before it handed over
 pub due-is-next : (job : Job) (gains : List ℤ) (front bytes : List ℕ) (d : Due job gains front bytes) →

@@ -1,24 +1,19 @@
 // The program `eqwave`: it reads, calls and writes. What it decides, `eqfile` decides.
-use crate::place::Job;
 use arguments::Arguments;
 use eqfile::Start;
-ghost use Rattle.eqwave.specs.Running.{Before};
+use turning::place::Job;
+ghost use Rattle.eqwave.specs.Started.{Before};
 
-mod buffers;
-mod input;
-mod output;
-mod place;
 mod run;
 mod say;
 mod taking;
-mod turn;
 
 fn main() {
     let mut gains = [0i32; arguments::BANDS];
     let mut front = io::buffer();
     let arguments = taking::take(&mut gains);
     let wanted = arguments::front_wanted(arguments);
-    let got = input::fill(&mut front[..wanted]);
+    let got = turning::input::fill(&mut front[..wanted]);
     begin(arguments, &front[..got], &gains);
 }
 

@@ -1,13 +1,14 @@
 // A run: the header, then turn after turn.
-use crate::buffers;
-use crate::output;
-use crate::place::Job;
-use crate::place::Place;
 use crate::say;
-use crate::turn::Turned;
-use crate::turn::one_turn;
+use turning::buffers;
+use turning::output;
+use turning::place::Job;
+use turning::place::Place;
+use turning::turn::Turned;
+use turning::turn::one_turn;
 ghost use Rattle.runs.specs.Started.{Started};
-ghost use Rattle.eqwave.specs.Running.{Begun, Running, Ended};
+ghost use Rattle.eqwave.specs.Started.{Begun};
+ghost use Rattle.turning.specs.Running.{Running, Ended};
 
 // As many bands as arguments.
 const BANDS: i32 = arguments::BANDS as i32;

@@ -5,10 +5,10 @@ use native.Mathlib.Omega.{arith}
 use denote.Ref.{now}
 use lib.ListN.{length}
 use Rattle.eqfile.specs.Turn.{fedInAll}
-use Rattle.eqwave.specs.declared.turn.Turned.{Turned}
-use Rattle.eqwave.specs.declared.turn.Turned.the-variants.{On}
-use Rattle.eqwave.specs.Running.{Running, Further}
-use Rattle.eqwave.proofs.Standing.{ended}
+use Rattle.turning.specs.declared.turn.Turned.{Turned}
+use Rattle.turning.specs.declared.turn.Turned.the-variants.{On}
+use Rattle.turning.specs.Running.{Running, Further}
+use Rattle.turning.proofs.Standing.{ended}
 use borrow.Author.Needs.{needs}
 use Rattle.eqwave.proofs.run.turns.Statement.{statement}
 use Rattle.eqwave.proofs.run.turns.Tie as tie

@@ -1,8 +1,8 @@
 -- `input::from` meets its contract. Assumes nothing.
 use denote.Ref.{now}
-use Rattle.eqwave.proofs.Fetching.{from-start, from-end}
-use Rattle.eqwave.proofs.input.from.Statement.{statement}
-use Rattle.eqwave.proofs.input.from.Tie as tie
+use Rattle.turning.proofs.Fetching.{from-start, from-end}
+use Rattle.turning.proofs.input.from.Statement.{statement}
+use Rattle.turning.proofs.input.from.Tie as tie
 
 returns : tie.Need-returns
 returns c = let a = c .before .args in from-start (now (a .front)) (a .start) (a .at) (c .if1 .taken)

@@ -1,7 +1,7 @@
 -- `turn::count` meets its contract. Assumes nothing.
 use borrow.Author.Needs.{needs}
-use Rattle.eqwave.proofs.turn.count.Statement.{statement}
-use Rattle.eqwave.proofs.turn.count.Tie as tie
+use Rattle.turning.proofs.turn.count.Statement.{statement}
+use Rattle.turning.proofs.turn.count.Tie as tie
 
 returns-2 : tie.Need-returns-2
 returns-2 c = absurd (c .before .before .pre (c .enum-told .given .1))

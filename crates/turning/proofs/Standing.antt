@@ -20,11 +20,11 @@ use Rattle.runs.specs.Program.{State, fresh, Follows, handed, turnAt, blockDone
 use Rattle.runs.proofs.BlockCalls.{read-within, read-is}
 use Rattle.runs.proofs.OneMore.{after-more, followed-more, fetched-more, at-within}
 use Rattle.runs.proofs.Starting.{few-enough}
-use Rattle.eqwave.specs.declared.place.Job.{Job}
-use Rattle.eqwave.specs.declared.place.Place.{Place}
-use Rattle.eqwave.specs.declared.turn.Turned.the-variants.{On}
-use Rattle.eqwave.specs.Running.{stateAt, Running, Came, Further, Ended}
-use Rattle.eqwave.proofs.Storing.{planned}
+use Rattle.turning.specs.declared.place.Job.{Job}
+use Rattle.turning.specs.declared.place.Place.{Place}
+use Rattle.turning.specs.declared.turn.Turned.the-variants.{On}
+use Rattle.turning.specs.Running.{stateAt, Running, Came, Further, Ended}
+use Rattle.turning.proofs.Storing.{planned}
 
 module _ {job : Job} {gains : List ℤ} {front : List ℕ} {place : Place} {memory : List ℤ} (run : Running job gains front place memory) where
   few : 3 * job .samples ≤ largestData

@@ -13,21 +13,21 @@ const BYTES: usize = 3 * BLOCK_LIMIT;
 const MEMORY: usize = 8066;
 
 // The samples of one block.
-pub(crate) fn samples() -> [i32; BLOCK_LIMIT]
+pub fn samples() -> [i32; BLOCK_LIMIT]
     ensures { λ r. ⌜ blockLimit ≡ length r ⌝ }
 {
     [0; BLOCK_LIMIT]
 }
 
 // The bytes of one block, read or to be written.
-pub(crate) fn bytes() -> [u8; BYTES]
+pub fn bytes() -> [u8; BYTES]
     ensures { λ r. ⌜ r ≡ replicate (3 * blockLimit) 0 ⌝ }
 {
     [0; BYTES]
 }
 
 // The line memory.
-pub(crate) fn memory() -> [i32; MEMORY]
+pub fn memory() -> [i32; MEMORY]
     ensures { λ r. ⌜ memoryLength bands ≡ length r ⌝ }
 {
     [0; MEMORY]

@@ -2,10 +2,10 @@
 use mathlib.Core.Path.{sym}
 use native.Mathlib.Omega.{arith}
 use lib.Seq.{length-take-le}
-use Rattle.eqwave.proofs.Storing.{planned, samples-there, bytes-there, memory-is, not-refused, stored-there, due}
+use Rattle.turning.proofs.Storing.{planned, samples-there, bytes-there, memory-is, not-refused, stored-there, due}
 use borrow.Author.Needs.{needs}
-use Rattle.eqwave.proofs.turn.put.Statement.{statement}
-use Rattle.eqwave.proofs.turn.put.Tie as tie
+use Rattle.turning.proofs.turn.put.Statement.{statement}
+use Rattle.turning.proofs.turn.put.Tie as tie
 
 array-borrow-prefix-input : tie.Need-array-borrow-prefix-input
 array-borrow-prefix-input b = omega (arith, b .before .samples .ensures, planned (b .before .before .before .before .pre) .fed-most)

@@ -6,21 +6,21 @@ ghost use Rattle.fields.specs.Bytes.{Bytes};
 ghost use Rattle.runs.specs.Program.{Fetched, fromOf};
 
 // Fills the bytes from standard input, and answers how many came.
-pub(crate) fn fill(bytes: &mut [u8]) -> usize
+pub fn fill(bytes: &mut [u8]) -> usize
     ensures { λ r. ⌜ r ≤ length (now (bytes .exit)) ⌝ }
 {
     io::read_full(libc::STDIN_FILENO, bytes)
 }
 
 // Where the bytes of the front begin that are not yet handed over: all are, once a turn was.
-pub(crate) fn from(front: &[u8], start: usize, at: usize) -> usize
+pub fn from(front: &[u8], start: usize, at: usize) -> usize
     ensures { λ r. ⌜ r ≡ fromOf (now (front .entry)) start at ⌝ }
 {
     if at == 0 { start } else { front.len() }
 }
 
 // The data bytes that a turn wants: those of the front from a place on, then those of standard input. Answers how many there were.
-pub(crate) fn fetch(front: &[u8], from: usize, bytes: &mut [u8]) -> usize
+pub fn fetch(front: &[u8], from: usize, bytes: &mut [u8]) -> usize
     ensures { λ r. ⌜ Fetched (now (front .entry)) from (length (now (bytes .entry))) (take r (now (bytes .exit))) ⌝ }
     ensures { λ r. ⌜ r ≤ length (now (bytes .entry)) ⌝ }
     ensures { λ r. ⌜ Bytes (take r (now (bytes .exit))) ⌝ }

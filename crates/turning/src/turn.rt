@@ -9,10 +9,10 @@ use eqfile::Turn;
 ghost use mathlib.Core.Path.{_≡_};
 ghost use Rattle.eqfile.specs.declared.block.Equalised.the-variants.{Bytes, Refused};
 ghost use Rattle.runs.specs.Program.{blockDone};
-ghost use Rattle.eqwave.specs.Running.{stateAt, Running, Came, Further};
+ghost use Rattle.turning.specs.Running.{stateAt, Running, Came, Further};
 
 // What a turn comes to.
-pub(crate) enum Turned {
+pub enum Turned {
     // Where the run stands after it.
     On(Place),
     // Standard output took no more.
@@ -60,13 +60,7 @@ fn put(
 }
 
 // The next turn of a run.
-pub(crate) fn one_turn(
-    job: Job,
-    gains: &[i32],
-    front: &[u8],
-    place: Place,
-    memory: &mut [i32],
-) -> Turned
+pub fn one_turn(job: Job, gains: &[i32], front: &[u8], place: Place, memory: &mut [i32]) -> Turned
     requires { ⌜ Running job (now gains) (now front) place (now memory) ⌝ }
     ensures { λ r. ⌜ Further job (now (gains .entry)) (now (front .entry)) place r (now (memory .exit)) ⌝ }
 {

@@ -2,14 +2,14 @@
 use samples::Format;
 
 // The format of the file's samples, how many there are, and where in the front their bytes start.
-pub(crate) struct Job {
-    pub(crate) format: Format,
-    pub(crate) samples: u32,
-    pub(crate) start: usize,
+pub struct Job {
+    pub format: Format,
+    pub samples: u32,
+    pub start: usize,
 }
 
 // The samples fed and the data bytes read so far.
-pub(crate) struct Place {
-    pub(crate) at: usize,
-    pub(crate) read: usize,
+pub struct Place {
+    pub at: usize,
+    pub read: usize,
 }

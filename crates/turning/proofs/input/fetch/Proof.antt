@@ -1,9 +1,9 @@
 -- `input::fetch` meets its contract: what was carried, and what came in behind it. Assumes nothing.
 use denote.Ref.{now}
-use Rattle.eqwave.proofs.Fetching.{carried-within, came-in}
+use Rattle.turning.proofs.Fetching.{carried-within, came-in}
 use borrow.Author.Needs.{needs}
-use Rattle.eqwave.proofs.input.fetch.Statement.{statement}
-use Rattle.eqwave.proofs.input.fetch.Tie as tie
+use Rattle.turning.proofs.input.fetch.Statement.{statement}
+use Rattle.turning.proofs.input.fetch.Tie as tie
 
 sub-fill : tie.Need-sub-fill
 sub-fill c =

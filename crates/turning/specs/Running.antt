@@ -1,33 +1,17 @@
 -- A run of the program, as its functions hand it on: nothing is known of the bytes that standard input hands over, so there are some.
 use mathlib.Core.Path.{_≡_}
 use mathlib.Core.List.{List}
-use Prim.Native.Nat.{ℕ, _≤_, _<_}
-use lib.ListN.{length, replicate}
-use lib.IntN.{ℤ, pos}
-use Rattle.answers.specs.Unit.{frontLength}
-use Rattle.arguments.specs.declared.taking.Arguments.{Arguments}
+use Prim.Native.Nat.{ℕ, _<_}
+use lib.ListN.{length}
+use lib.IntN.{ℤ}
 use Rattle.eqfile.specs.declared.turn.Turn.{Turn}
-use Rattle.arguments.specs.Arguments.{bands}
 use Rattle.eqfile.specs.Turn.{fedInAll}
 use Rattle.runs.specs.Program.{State, fresh, Follows, handed, turnAt, blockDone, after, Followed, ByPlan, fromOf, Fetched, AllFetched}
 use Rattle.runs.specs.Started.{Started}
-use Rattle.eqwave.specs.declared.place.Job.{Job}
-use Rattle.eqwave.specs.declared.place.Place.{Place}
-use Rattle.eqwave.specs.declared.turn.Turned.{Turned}
-use Rattle.eqwave.specs.declared.turn.Turned.the-variants.{On, OutputFailed}
-use Rattle.eqwave.specs.Arguments.{AllTaken}
-
--- rule 10.5: what is known before the front is judged
-pub record Before (arguments : Arguments) (front : List ℕ) (gains : List ℤ) : Type 0 where
-  pub all-taken : AllTaken (replicate bands (pos 0)) arguments gains
-  pub few : length front ≤ frontLength
-
--- rule 10.8: some run has started with this rate and number of samples
-pub record Begun (rate samples : ℕ) : Type 0 where
-  pub job : Job
-  pub gains : List ℤ
-  pub front : List ℕ
-  pub started : Started gains front rate (job .format) samples (job .start)
+use Rattle.turning.specs.declared.place.Job.{Job}
+use Rattle.turning.specs.declared.place.Place.{Place}
+use Rattle.turning.specs.declared.turn.Turned.{Turned}
+use Rattle.turning.specs.declared.turn.Turned.the-variants.{On, OutputFailed}
 
 -- rule 10.10: where a run stands
 abbrev pub stateAt : Place → List ℤ → State

@@ -2,10 +2,10 @@
 use mathlib.Core.Path.{sym}
 use native.Mathlib.Omega.{arith}
 use lib.Seq.{length-take-le}
-use Rattle.eqwave.proofs.Standing.{limits, at-fits, read-fits, wanted-there, got-few, got-there, piece-long, piece-came, further}
+use Rattle.turning.proofs.Standing.{limits, at-fits, read-fits, wanted-there, got-few, got-there, piece-long, piece-came, further}
 use borrow.Author.Needs.{needs}
-use Rattle.eqwave.proofs.turn.one_turn.Statement.{statement}
-use Rattle.eqwave.proofs.turn.one_turn.Tie as tie
+use Rattle.turning.proofs.turn.one_turn.Statement.{statement}
+use Rattle.turning.proofs.turn.one_turn.Tie as tie
 
 array-borrow-prefix-bytes : tie.Need-array-borrow-prefix-bytes
 array-borrow-prefix-bytes c =

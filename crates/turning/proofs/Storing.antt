@@ -17,9 +17,9 @@ use Rattle.eqfile.proofs.Turns.{Bounds, bounds}
 use Rattle.runs.specs.Program.{State, Follows, turnAt, blockDone}
 use Rattle.runs.proofs.SamplesInPieces.{length-from}
 use Rattle.runs.proofs.Program.{block-accepted}
-use Rattle.eqwave.specs.declared.place.Job.{Job}
-use Rattle.eqwave.specs.declared.place.Place.{Place}
-use Rattle.eqwave.specs.Running.{stateAt, Came, Due}
+use Rattle.turning.specs.declared.place.Job.{Job}
+use Rattle.turning.specs.declared.place.Place.{Place}
+use Rattle.turning.specs.Running.{stateAt, Came, Due}
 
 cut : {A : Type 0} (n m : ℕ) (x : A) → n ≤ m → take n (replicate m x) ≡ replicate n x
 cut zero m x h = refl

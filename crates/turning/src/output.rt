@@ -3,17 +3,17 @@ use crate::place::Job;
 ghost use mathlib.Core.Path.{_≡_};
 ghost use Prim.Native.Nat.{_*_};
 ghost use Rattle.wave.specs.Header.{header};
-ghost use Rattle.eqwave.specs.Running.{Due};
+ghost use Rattle.turning.specs.Running.{Due};
 
 // The header of so many samples. Answers whether standard output took it.
-pub(crate) fn hand_header(bytes: &[u8], rate: u32, samples: u32) -> bool
+pub fn hand_header(bytes: &[u8], rate: u32, samples: u32) -> bool
     requires { ⌜ now bytes ≡ header rate (3 * samples) ⌝ }
 {
     io::write_all(libc::STDOUT_FILENO, bytes)
 }
 
 // What a turn's block stored. Answers whether standard output took it.
-pub(crate) fn hand(bytes: &[u8], job: Job, gains: &[i32], front: &[u8]) -> bool
+pub fn hand(bytes: &[u8], job: Job, gains: &[i32], front: &[u8]) -> bool
     requires { ⌜ Due job (now gains) (now front) (now bytes) ⌝ }
 {
     io::write_all(libc::STDOUT_FILENO, bytes)
