@@ -1,3 +1,4 @@
 pub mod ArgumentText
 pub mod ArgumentGain
 pub mod NextArgument
+pub mod TakenInTurn

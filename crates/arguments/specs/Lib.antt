@@ -1,2 +1,3 @@
 pub mod Argument
 pub mod Arguments
+pub mod Given

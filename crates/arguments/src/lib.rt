@@ -1,8 +1,10 @@
 // The arguments of `eqwave`: text to gains. No public call has a `requires`.
 mod digits;
+mod given;
 mod half;
 mod taking;
 
+pub use given::take;
 pub use half::Argument;
 pub use half::gain_of;
 pub use taking::Arguments;

@@ -2,4 +2,3 @@ pub mod Start
 pub mod Turn
 pub mod Front
 pub mod Data
-pub mod Equalise

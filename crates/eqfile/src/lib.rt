@@ -1,14 +1,11 @@
-// What the program `eqwave` decides: the order of its checks, the plan of a run, bytes to samples, one block to bytes.
+// What the program `eqwave` decides: the order of its checks, the plan of a run, bytes to samples.
 // No public call has a `requires`.
-mod block;
 mod data;
 mod front;
 mod refusal;
 mod start;
 mod turn;
 
-pub use block::Equalised;
-pub use block::equalise;
 pub use data::samples_from;
 pub use front::carry;
 pub use refusal::Refusal;

@@ -1,3 +1,2 @@
-pub mod TakenInTurn
 pub mod Beginning
 pub mod Handed

@@ -8,7 +8,7 @@ use Rattle.arguments.specs.declared.taking.Arguments.{Arguments}
 use Rattle.arguments.specs.Arguments.{bands}
 use Rattle.runs.specs.Started.{Started}
 use Rattle.turning.specs.declared.place.Job.{Job}
-use Rattle.eqwave.specs.Arguments.{AllTaken}
+use Rattle.arguments.specs.Given.{AllTaken}
 
 -- rule 10.5: what is known before the front is judged
 pub record Before (arguments : Arguments) (front : List ℕ) (gains : List ℤ) : Type 0 where

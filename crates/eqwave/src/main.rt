@@ -6,12 +6,11 @@ ghost use Rattle.eqwave.specs.Started.{Before};
 
 mod run;
 mod say;
-mod taking;
 
 fn main() {
     let mut gains = [0i32; arguments::BANDS];
     let mut front = io::buffer();
-    let arguments = taking::take(&mut gains);
+    let arguments = arguments::take(&mut gains);
     let wanted = arguments::front_wanted(arguments);
     let got = turning::input::fill(&mut front[..wanted]);
     begin(arguments, &front[..got], &gains);

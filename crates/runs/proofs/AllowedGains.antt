@@ -17,7 +17,7 @@ use Rattle.arguments.specs.declared.half.Argument.the-variants.{Gain, Refused}
 use Rattle.arguments.specs.Argument.{argumentOf}
 use Rattle.arguments.specs.Arguments.{bands, with, eachGain, argumentsOf}
 use Rattle.arguments.proofs.ArgumentGain.{gain-small}
-use Rattle.eqfile.proofs.Outputs.{none-within}
+use Rattle.blocks.proofs.Outputs.{none-within}
 use Rattle.runs.proofs.NeverRefused.{Allowed}
 
 refuses : {A : Type 0} {B : Type 0} {k p : ℕ} {b : B} → refused k p ≡ accepted b → A

@@ -15,7 +15,7 @@ use Rattle.samples.specs.declared.format.Format.{Format}
 use Rattle.history.specs.History.{Call, joined}
 use Rattle.eqfile.specs.Data.{samplesFrom}
 use Rattle.eqfile.specs.Turn.{late, fedInAll, allRead, wantedOf, turnOf}
-use Rattle.eqfile.specs.Equalise.{zeros}
+use Rattle.blocks.specs.Equalise.{zeros}
 use Rattle.runs.specs.Program.{State, fresh, handed, turnAt, next, after, Followed, ByPlan}
 use Rattle.eqfile.proofs.Turns.{wanted-few}
 use Rattle.runs.proofs.NeverMore.{step}

@@ -28,7 +28,7 @@ use Rattle.eqfile.specs.Data.{samplesFrom}
 use Rattle.eqfile.specs.Turn.{late}
 use Rattle.runs.specs.Program.{State, fresh, handed, next, Followed, ByPlan, programWrites}
 use Rattle.runs.proofs.SamplesInPieces.{length-from}
-use Rattle.eqfile.proofs.Outputs.{allInRange, none-within, out-in-range}
+use Rattle.blocks.proofs.Outputs.{allInRange, none-within, out-in-range}
 use Rattle.runs.proofs.InRange.{from-within}
 use Rattle.runs.proofs.Written.{from-long, unity-output, noughts-are-unity, all-unity}
 use Rattle.runs.proofs.Program.{program-writes, program-length}

@@ -11,7 +11,7 @@ use Rattle.samples.specs.Samples.{samplesOf}
 use Rattle.samples.specs.Format.{sizeOf}
 use Rattle.samples.specs.declared.format.Format.{Format}
 use Rattle.samples.proofs.InRange.{all-append, samples-in-range}
-use Rattle.eqfile.proofs.Outputs.{allInRange, none-within, next-in-range}
+use Rattle.blocks.proofs.Outputs.{allInRange, none-within, next-in-range}
 use Rattle.eqfile.specs.Data.{samplesFrom}
 
 zeros-within : (n : ℕ) → allInRange (replicate n (pos 0)) ≡ true

@@ -21,11 +21,11 @@ use Rattle.octave.proofs.Memories.{accepts-is}
 use Rattle.history.proofs.Regions.{run-region, run-inside}
 use Rattle.history.proofs.Calls.{prepared-holds}
 use Rattle.samples.specs.Samples.{bytesOf}
-use Rattle.eqfile.specs.declared.block.Equalised.the-variants.{Bytes}
+use Rattle.blocks.specs.declared.block.Equalised.the-variants.{Bytes}
 use Rattle.arguments.specs.Arguments.{bands}
-use Rattle.eqfile.specs.Equalise.{zeros, blockFor, equaliseOf}
-use Rattle.eqfile.proofs.Outputs.{allInRange, equalised-long, held-ran}
-use Rattle.eqfile.proofs.OneBlock.{equalised-is}
+use Rattle.blocks.specs.Equalise.{zeros, blockFor, equaliseOf}
+use Rattle.blocks.proofs.Outputs.{allInRange, equalised-long, held-ran}
+use Rattle.blocks.proofs.OneBlock.{equalised-is}
 
 -- ---- the block
 

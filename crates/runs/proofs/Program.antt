@@ -19,12 +19,12 @@ use Rattle.answers.specs.Checks.{Outcome}
 use Rattle.samples.specs.Samples.{bytesOf}
 use Rattle.samples.specs.declared.format.Format.{Format}
 use Rattle.samples.proofs.Storing.{length-bytes, bytes-append}
-use Rattle.eqfile.specs.declared.block.Equalised.{Equalised}
-use Rattle.eqfile.specs.declared.block.Equalised.the-variants.{Bytes}
+use Rattle.blocks.specs.declared.block.Equalised.{Equalised}
+use Rattle.blocks.specs.declared.block.Equalised.the-variants.{Bytes}
 use Rattle.arguments.specs.Arguments.{bands, argumentsOf}
 use Rattle.eqfile.specs.Data.{samplesFrom}
 use Rattle.eqfile.specs.Turn.{late, turnOf}
-use Rattle.eqfile.specs.Equalise.{zeros, blockFor}
+use Rattle.blocks.specs.Equalise.{zeros, blockFor}
 use Rattle.runs.specs.Program.{State, fresh, Follows, handed, turnAt, blockDone, next, after, Followed, ByPlan, programWrites}
 use Rattle.runs.proofs.Written.{SameGains, from-long, written-are}
 use Rattle.runs.proofs.BlockCalls.{calls, calls-join}

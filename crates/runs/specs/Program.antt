@@ -11,12 +11,12 @@ use Rattle.fields.specs.Bytes.{Bytes}
 use Rattle.octave.specs.Memory.{prepared}
 use Rattle.samples.specs.Format.{sizeOf}
 use Rattle.samples.specs.declared.format.Format.{Format}
-use Rattle.eqfile.specs.declared.block.Equalised.{Equalised}
+use Rattle.blocks.specs.declared.block.Equalised.{Equalised}
 use Rattle.eqfile.specs.declared.turn.Turn.{Turn}
 use Rattle.arguments.specs.Arguments.{bands}
 use Rattle.eqfile.specs.Data.{samplesFrom}
 use Rattle.eqfile.specs.Turn.{fedInAll, turnOf}
-use Rattle.eqfile.specs.Equalise.{equaliseOf}
+use Rattle.blocks.specs.Equalise.{equaliseOf}
 
 -- rule 10.10: where a run stands: the samples fed, the data bytes read, and the line memory
 pub record State : Type 0 where

@@ -11,7 +11,7 @@ use mir.Val.{Fits}
 use lib.ListN.{length, getD, take, drop, length-append, length-take, length-drop}
 use lib.Seq.{take-all, take-at, take-append-add, take-append-le, length-take-le}
 use Rattle.fields.specs.Bytes as fields
-use Rattle.eqfile.specs.declared.block.Equalised.the-variants.{Bytes}
+use Rattle.blocks.specs.declared.block.Equalised.the-variants.{Bytes}
 use Rattle.eqfile.specs.Front.{carryOf}
 use Rattle.runs.specs.Program.{fromOf, Fetched}
 use Rattle.fields.proofs.Numbers.{bytes-take}

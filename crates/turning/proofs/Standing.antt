@@ -12,7 +12,7 @@ use lib.IntN.{ℤ}
 use Rattle.answers.specs.Unit.{blockLimit, largestData}
 use Rattle.samples.specs.Format.{sizeOf}
 use Rattle.fields.specs.Bytes as fields
-use Rattle.eqfile.specs.declared.block.Equalised.the-variants.{Bytes}
+use Rattle.blocks.specs.declared.block.Equalised.the-variants.{Bytes}
 use Rattle.eqfile.specs.declared.turn.Turn.{Turn}
 use Rattle.eqfile.specs.Turn.{fedInAll, turnOf}
 use Rattle.eqfile.proofs.Turns.{Bounds, bounds, few-bytes}

@@ -8,11 +8,11 @@ use lib.Seq.{take-at, length-take-le}
 use lib.IntN.{ℤ}
 use Rattle.answers.specs.Checks.{Outcome, Done}
 use Rattle.answers.specs.Unit.{blockLimit}
-use Rattle.eqfile.specs.declared.block.Equalised.{Equalised}
-use Rattle.eqfile.specs.declared.block.Equalised.the-variants.{Bytes, Refused}
+use Rattle.blocks.specs.declared.block.Equalised.{Equalised}
+use Rattle.blocks.specs.declared.block.Equalised.the-variants.{Bytes, Refused}
 use Rattle.eqfile.specs.declared.turn.Turn.{Turn}
 use Rattle.eqfile.specs.Data.{samplesFrom}
-use Rattle.eqfile.specs.Equalise.{equaliseOf}
+use Rattle.blocks.specs.Equalise.{equaliseOf}
 use Rattle.eqfile.proofs.Turns.{Bounds, bounds}
 use Rattle.runs.specs.Program.{State, Follows, turnAt, blockDone}
 use Rattle.runs.proofs.SamplesInPieces.{length-from}

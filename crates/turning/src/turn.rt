@@ -4,10 +4,10 @@ use crate::input;
 use crate::output;
 use crate::place::Job;
 use crate::place::Place;
-use eqfile::Equalised;
+use blocks::Equalised;
 use eqfile::Turn;
 ghost use mathlib.Core.Path.{_≡_};
-ghost use Rattle.eqfile.specs.declared.block.Equalised.the-variants.{Bytes, Refused};
+ghost use Rattle.blocks.specs.declared.block.Equalised.the-variants.{Bytes, Refused};
 ghost use Rattle.runs.specs.Program.{blockDone};
 ghost use Rattle.turning.specs.Running.{stateAt, Running, Came, Further};
 
@@ -49,7 +49,7 @@ fn put(
     let written = turn.written;
     let format = job.format;
     eqfile::samples_from(piece, format, &mut input[..fed]);
-    let n = count(eqfile::equalise(
+    let n = count(blocks::equalise(
         memory,
         gains,
         &input[..fed],

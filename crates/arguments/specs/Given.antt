@@ -1,11 +1,11 @@
--- What the program's own functions say of its arguments: nothing is known of the bytes that the system hands over, so there are some.
+-- The arguments that the system hands over: nothing is known of their bytes, so there are some.
 use mathlib.Core.Path.{_≡_}
 use mathlib.Core.List.{List}
 use Prim.Native.Nat.{ℕ}
 use lib.IntN.{ℤ}
 use Rattle.arguments.specs.declared.taking.Arguments.{Arguments}
 use Rattle.arguments.specs.declared.taking.Arguments.the-variants as arguments
 use Rattle.arguments.specs.Arguments.{another, allOf}
 
 -- rule 10.3: one more argument was taken, of some bytes
 pub record OneTaken (before : Arguments) (gains : List ℤ) (after : Arguments) (gains′ : List ℤ) : Type 0 where

@@ -1,6 +1,7 @@
-// The arguments, in turn.
-use arguments::Arguments;
-ghost use Rattle.eqwave.specs.Arguments.{OneTaken, AllTaken};
+// The arguments that the system hands over, in turn.
+use crate::taking;
+use crate::taking::Arguments;
+ghost use Rattle.arguments.specs.Given.{OneTaken, AllTaken};
 
 // One argument's bytes. One that is longer than eight bytes is handed on as empty.
 fn another(before: Arguments, i: usize, gains: &mut [i32]) -> Arguments
@@ -8,11 +9,11 @@ fn another(before: Arguments, i: usize, gains: &mut [i32]) -> Arguments
 {
     let mut text = [0u8; 8];
     let n = os::arg(i, &mut text);
-    arguments::another(before, &text[..n], gains)
+    taking::another(before, &text[..n], gains)
 }
 
 // All arguments, one after the other.
-pub(crate) fn take(gains: &mut [i32]) -> Arguments
+pub fn take(gains: &mut [i32]) -> Arguments
     ensures { λ r. ⌜ AllTaken (now (gains .entry)) r (now (gains .exit)) ⌝ }
 {
     let count = os::arg_count();

@@ -1,7 +1,7 @@
--- `taking::another` takes the bytes that the system hands over. Assumes nothing.
+-- `given::another` takes the bytes that the system hands over. Assumes nothing.
 use borrow.Author.Needs.{needs}
-use Rattle.eqwave.proofs.taking.another.Statement.{statement}
-use Rattle.eqwave.proofs.taking.another.Tie as tie
+use Rattle.arguments.proofs.given.another.Statement.{statement}
+use Rattle.arguments.proofs.given.another.Tie as tie
 
 pub another-spec : {M : Type 1} → statement M
 another-spec =

@@ -12,8 +12,8 @@ use Rattle.samples.specs.Samples.{bytesOf}
 use Rattle.octave.specs.declared.block.Blocked.{Blocked}
 use Rattle.octave.specs.Answer.{blockAnswer}
 use Rattle.octave.specs.Block.{blockOf}
-use Rattle.eqfile.specs.declared.block.Equalised.{Equalised}
-use Rattle.eqfile.specs.declared.block.Equalised.the-variants.{Bytes, Refused}
+use Rattle.blocks.specs.declared.block.Equalised.{Equalised}
+use Rattle.blocks.specs.declared.block.Equalised.the-variants.{Bytes, Refused}
 
 -- rule 10.17: a block's output starts as zeros
 abbrev pub zeros : List ℤ → List ℤ

@@ -1,8 +1,8 @@
 -- `block::is_written` meets its contract. Assumes nothing.
-use Rattle.eqfile.proofs.OneBlock.{written-is, not-written}
+use Rattle.blocks.proofs.OneBlock.{written-is, not-written}
 use borrow.Author.Needs.{needs}
-use Rattle.eqfile.proofs.block.is_written.Statement.{statement}
-use Rattle.eqfile.proofs.block.is_written.Tie as tie
+use Rattle.blocks.proofs.block.is_written.Statement.{statement}
+use Rattle.blocks.proofs.block.is_written.Tie as tie
 
 pub is-written-spec : {M : Type 1} → statement M
 is-written-spec =

@@ -3,10 +3,10 @@ use mathlib.Core.Path.{_≡_, refl, ap, _∙_}
 use mathlib.Core.List.{List, [], _∷_, _++_}
 use Prim.Native.Nat.{ℕ}
 use lib.IntN.{ℤ}
 use Rattle.arguments.specs.declared.taking.Arguments.{Arguments}
 use Rattle.arguments.specs.declared.taking.Arguments.the-variants.{Taken}
 use Rattle.arguments.specs.Arguments.{another, allOf}
-use Rattle.eqwave.specs.Arguments.{OneTaken, AllTaken}
+use Rattle.arguments.specs.Given.{OneTaken, AllTaken}
 
 pub none-taken : (gains : List ℤ) → AllTaken gains (Taken 0) gains
 unfolding allOf

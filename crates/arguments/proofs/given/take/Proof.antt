@@ -1,12 +1,12 @@
--- `taking::take` meets its contract and ends: the measure is what is left of the arguments. Assumes nothing.
+-- `given::take` meets its contract and ends: the measure is what is left of the arguments. Assumes nothing.
 use mathlib.Core.Path.{_≡_, refl, _∙_}
 use Prim.Native.Nat.{_-_}
 use native.Mathlib.Omega.{arith}
 use lib.ListN.{length}
-use Rattle.eqwave.specs.Arguments.{AllTaken}
-use Rattle.eqwave.proofs.TakenInTurn.{none-taken, one-more}
-use Rattle.eqwave.proofs.taking.take.Statement.{statement}
-use Rattle.eqwave.proofs.taking.take.Tie as tie
+use Rattle.arguments.specs.Given.{AllTaken}
+use Rattle.arguments.proofs.TakenInTurn.{none-taken, one-more}
+use Rattle.arguments.proofs.given.take.Statement.{statement}
+use Rattle.arguments.proofs.given.take.Tie as tie
 
 abbrev Inv-loop : tie.InvT-loop
 Inv-loop gains₀ count taken₀ i₀ gains taken i = (length gains ≡ length gains₀) × AllTaken gains₀ taken gains

@@ -10,11 +10,11 @@ use Rattle.answers.specs.Checks.{Done}
 use Rattle.answers.specs.Unit.{blockLimit}
 use Rattle.answers.proofs.Branches.{judging, told-no, told-yes}
 use Rattle.octave.specs.Block.{blockOf}
-use Rattle.eqfile.specs.Equalise.{zeros, blockFor, equaliseOf}
-use Rattle.eqfile.proofs.OneBlock.{Lengths, lengths, call-refused, outputs-there, call-stored, cleared-part}
+use Rattle.blocks.specs.Equalise.{zeros, blockFor, equaliseOf}
+use Rattle.blocks.proofs.OneBlock.{Lengths, lengths, call-refused, outputs-there, call-stored, cleared-part}
 use borrow.Author.Needs.{needs}
-use Rattle.eqfile.proofs.block.equalise.Statement.{statement}
-use Rattle.eqfile.proofs.block.equalise.Tie as tie
+use Rattle.blocks.proofs.block.equalise.Statement.{statement}
+use Rattle.blocks.proofs.block.equalise.Tie as tie
 
 returns : tie.Need-returns
 unfolding equaliseOf

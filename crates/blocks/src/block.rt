@@ -7,7 +7,7 @@ ghost use lib.ListN.{replicate};
 ghost use lib.IntN.{pos};
 ghost use Rattle.answers.specs.Checks.{Done};
 ghost use Rattle.answers.specs.Unit.{blockLimit};
-ghost use Rattle.eqfile.specs.Equalise.{lengthsFit, isWritten, equaliseOf};
+ghost use Rattle.blocks.specs.Equalise.{lengthsFit, isWritten, equaliseOf};
 
 // What `equalise` answers.
 pub enum Equalised {

@@ -24,10 +24,10 @@ use Rattle.octave.proofs.block.Blocked as declared
 use Rattle.samples.specs.Samples.{bytesOf, blockTo}
 use Rattle.samples.specs.declared.block.Stored.{Stored}
 use Rattle.samples.proofs.Codec.{to-all}
-use Rattle.eqfile.specs.declared.block.Equalised.{Equalised}
-use Rattle.eqfile.specs.declared.block.Equalised.the-variants.{Bytes, Refused}
-use Rattle.eqfile.specs.Equalise.{zeros, blockFor, lengthsFit, isWritten, equaliseOf}
-use Rattle.eqfile.proofs.Outputs.{allInRange, in-range-drop, equalised-long, equalised-in-range, held-ran, ran-held, refused-kept}
+use Rattle.blocks.specs.declared.block.Equalised.{Equalised}
+use Rattle.blocks.specs.declared.block.Equalised.the-variants.{Bytes, Refused}
+use Rattle.blocks.specs.Equalise.{zeros, blockFor, lengthsFit, isWritten, equaliseOf}
+use Rattle.blocks.proofs.Outputs.{allInRange, in-range-drop, equalised-long, equalised-in-range, held-ran, ran-held, refused-kept}
 
 -- ---- the answer of the block call
 
