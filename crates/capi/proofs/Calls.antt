@@ -11,7 +11,7 @@ use Rattle.octave.specs.Memory.{memoryLengthOf, prepareOf}
 use Rattle.gain.specs.Answer.{answerOf}
 use Rattle.gain.specs.Promise.{commandGain}
 use Rattle.gain.specs.declared.Command.{Command}
-use Rattle.wave.specs.Header.{writeOf, writeAnswer}
+use Rattle.wave_writer.specs.Header.{writeOf, writeAnswer}
 use Rattle.samples.specs.Sample.{fromBytes, toBytes, sampleAnswer, putAnswer}
 use Rattle.wave.specs.Walk.{readOf}
 use Rattle.capi.specs.Answers.{ofCount}

@@ -32,14 +32,14 @@ use Rattle.gain.specs.declared.Gained.the-variants.{Gain, NotHalfDecibels, NotF
 use Rattle.gain.proofs.Answers.{within}
 use Rattle.fields.specs.Bytes.{lowest, numberIn, row}
 use Rattle.fields.proofs.ByTest.{cond-case}
-use Rattle.wave.specs.Header.{header, writeChecks, writeOf, writeAnswer}
+use Rattle.wave_writer.specs.Header.{header, writeChecks, writeOf, writeAnswer}
 use Rattle.samples.specs.Sample.{codeOf, numberOf, sampleIn, fromBytes, putChecks, toBytes, sampleAnswer, putAnswer}
 use Rattle.samples.specs.declared.format.Format.{Format}
 use Rattle.samples.specs.declared.format.Format.the-variants.{Bits16, Bits24}
 use Rattle.samples.specs.declared.single.Put.{Put}
 use Rattle.samples.specs.declared.single.Put.the-variants.{Done}
 use Rattle.samples.specs.declared.single.Sample.{Sample}
-use Rattle.wave.specs.declared.writer.Written as writer
+use Rattle.wave_writer.specs.declared.writer.Written as writer
 use Rattle.capi.specs.Encode.{halfway}
 use Rattle.capi.specs.Parts.{Returnable, Counted}
 

@@ -2,9 +2,9 @@
 use crate::code::CountParts;
 use crate::code::count;
 use wave::Reading;
-use wave::Written;
+use wave_writer::Written;
 ghost use mathlib.Core.Path.{_≡_};
-ghost use Rattle.wave.specs.Header.{writeOf, writeAnswer};
+ghost use Rattle.wave_writer.specs.Header.{writeOf, writeAnswer};
 ghost use Rattle.wave.specs.Walk.{readOf, readAnswer};
 ghost use Rattle.capi.specs.Answers.{ofCount, Returned};
 ghost use Rattle.capi.specs.Encode.{encode};
@@ -68,5 +68,5 @@ pub extern "C" fn oeq_wave_read(front: &[u8], found: &mut [u32; 4]) -> i64
 pub extern "C" fn oeq_wave_write(buffer: &mut [u8], rate: u32, size: u32) -> i64
     ensures { λ r. ⌜ Returned (λ a. ofCount (writeAnswer a)) (writeOf (now (buffer .entry)) rate size) r (now (buffer .exit)) ⌝ }
 {
-    count(write_parts(wave::write(buffer, rate, size)))
+    count(write_parts(wave_writer::write(buffer, rate, size)))
 }

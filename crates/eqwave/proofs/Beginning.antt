@@ -9,8 +9,8 @@ use Rattle.answers.specs.Checks.{Outcome, decide, Done}
 use Rattle.answers.specs.Unit.{largestData}
 use Rattle.octave.specs.declared.memory.Prepared.{Prepared}
 use Rattle.octave.specs.Memory.{memoryLength, prepared, prepareOf}
-use Rattle.wave.specs.Header.{header, writeOf}
-use Rattle.wave.specs.declared.writer.Written.{Written}
+use Rattle.wave_writer.specs.Header.{header, writeOf}
+use Rattle.wave_writer.specs.declared.writer.Written.{Written}
 use Rattle.arguments.specs.Arguments.{bands}
 use Rattle.runs.specs.Program.{after, Followed, AllFetched}
 use Rattle.runs.specs.Started.{Started}

@@ -46,7 +46,7 @@ fn put_header(rate: u32, samples: u32) -> bool
     requires { ⌜ Begun rate samples ⌝ }
 {
     let mut header = [0u8; 44];
-    wave::write(&mut header, rate, 3 * samples);
+    wave_writer::write(&mut header, rate, 3 * samples);
     output::hand_header(&header, rate, samples)
 }
 

@@ -10,14 +10,14 @@ use lib.ListN.{length}
 use lib.IntN.{ℤ}
 use Rattle.answers.specs.Answer.{Answer, accepted, refused}
 use Rattle.answers.specs.Unit.{largestData, frontLength}
-use Rattle.wave.specs.Header.{header, writeOf}
+use Rattle.wave_writer.specs.Header.{header, writeOf}
 use Rattle.samples.specs.Format.{sizeOf}
 use Rattle.wave.specs.Values.{frameSize, knownRate}
 use Rattle.wave.specs.Walk.{Found, readOf}
 use Rattle.samples.specs.declared.format.Format.{Format}
-use Rattle.wave.specs.declared.writer.Written.the-variants.{Header}
+use Rattle.wave_writer.specs.declared.writer.Written.the-variants.{Header}
 use Rattle.wave.proofs.Answers.{accepted-rate, accepted-whole}
-use Rattle.wave.proofs.Writing.{write-accepts}
+use Rattle.wave_writer.proofs.Writing.{write-accepts}
 use Rattle.arguments.specs.declared.taking.Arguments.{Arguments}
 use Rattle.arguments.specs.declared.taking.Arguments.the-variants.{Taken}
 use Rattle.eqfile.specs.declared.start.Start.the-variants.{Run}

@@ -13,13 +13,13 @@ use Rattle.tree.specs.Signal.{signalOf, gainOf}
 use Rattle.tree.specs.Tree.{output}
 use Rattle.history.specs.History.{from}
 use Rattle.samples.specs.Samples.{bytesOf}
-use Rattle.wave.specs.Header.{header}
+use Rattle.wave_writer.specs.Header.{header}
 use Rattle.wave.specs.Walk.{readOf}
 use Rattle.samples.specs.declared.format.Format.{Format}
 use Rattle.samples.specs.declared.format.Format.the-variants.{Bits24}
-use Rattle.wave.specs.declared.writer.Written.{Written}
-use Rattle.wave.proofs.Writing.{length-header}
-use Rattle.wave.proofs.RoundTrips.{foundIn, header-read-back}
+use Rattle.wave_writer.specs.declared.writer.Written.{Written}
+use Rattle.wave_writer.proofs.Writing.{length-header}
+use Rattle.wave_writer.proofs.RoundTrips.{foundIn, header-read-back}
 use Rattle.arguments.specs.Arguments.{bands}
 use Rattle.eqfile.specs.Data.{samplesFrom}
 use Rattle.eqfile.specs.Turn.{late}

@@ -6,7 +6,7 @@ use lib.ListN.{length}
 use lib.IntN.{ℤ}
 use Rattle.answers.specs.Answer.{accepted}
 use Rattle.answers.specs.Unit.{frontLength}
-use Rattle.wave.specs.Header.{header}
+use Rattle.wave_writer.specs.Header.{header}
 use Rattle.samples.specs.declared.format.Format.{Format}
 use Rattle.arguments.specs.declared.taking.Arguments.the-variants.{Taken}
 use Rattle.eqfile.specs.declared.start.Start.the-variants.{Run}

@@ -2,7 +2,7 @@
 use crate::place::Job;
 ghost use mathlib.Core.Path.{_≡_};
 ghost use Prim.Native.Nat.{_*_};
-ghost use Rattle.wave.specs.Header.{header};
+ghost use Rattle.wave_writer.specs.Header.{header};
 ghost use Rattle.turning.specs.Running.{Due};
 
 // The header of so many samples. Answers whether standard output took it.

@@ -4,7 +4,5 @@ pub mod Chunks
 pub mod Judging
 pub mod OneAnswer
 pub mod RightValues
-pub mod RoundTrips
 pub mod Steps
 pub mod Unread
-pub mod Writing

@@ -1,4 +1,3 @@
-pub mod Header
 pub mod Names
 pub mod Private
 pub mod Values

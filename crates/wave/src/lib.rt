@@ -1,11 +1,10 @@
-// WAVE headers: the reader, in two steps, and the writer.
+// WAVE headers: their right values, and the reader, in two steps.
 // No public call has a `requires`: what it cannot take it refuses, and then it changes nothing that is lent.
 mod chunk;
 mod finder;
 mod reader;
 mod refusal;
-mod values;
-mod writer;
+pub mod values;
 
 pub use finder::Finding;
 pub use finder::find;
@@ -13,5 +12,3 @@ pub use reader::Reading;
 pub use reader::read;
 pub use refusal::Refusal;
 pub use refusal::number;
-pub use writer::Written;
-pub use writer::write;

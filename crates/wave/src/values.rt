@@ -6,17 +6,17 @@ ghost use Prim.Native.Nat.{_<_};
 ghost use Rattle.wave.specs.Values.{frameSize, codingOf, knownRate, right};
 
 // The length of `fmt `.
-pub(crate) const FMT_LENGTH: u32 = 16;
+pub const FMT_LENGTH: u32 = 16;
 // The only number of channels.
-pub(crate) const CHANNELS: u32 = 1;
+pub const CHANNELS: u32 = 1;
 
 // What the tag and the bits say.
-pub(crate) enum Coding {
+pub enum Coding {
     Known(Format),
     Unknown,
 }
 
-pub(crate) fn coding_of(tag: u32, bits: u32) -> Coding
+pub fn coding_of(tag: u32, bits: u32) -> Coding
     ensures { λ r. ⌜ r ≡ codingOf tag bits ⌝ }
 {
     if tag != 1 {
@@ -32,19 +32,19 @@ pub(crate) fn coding_of(tag: u32, bits: u32) -> Coding
 }
 
 // The bytes of one frame: a sample of each channel.
-pub(crate) fn frame_size(format: Format) -> u32
+pub fn frame_size(format: Format) -> u32
     ensures { λ r. ⌜ (r ≡ frameSize format) × (0 < r) × (r < 4) ⌝ }
 {
     CHANNELS * bytes_each(format)
 }
 
-pub(crate) fn known_rate(rate: u32) -> bool
+pub fn known_rate(rate: u32) -> bool
     ensures { λ r. ⌜ r ≡ knownRate rate ⌝ }
 {
     if rate == 44100 { true } else { rate == 48000 }
 }
 
-pub(crate) fn right(format: Format, count: u32, rate: u32, byterate: u32, block: u32) -> bool
+pub fn right(format: Format, count: u32, rate: u32, byterate: u32, block: u32) -> bool
     ensures { λ r. ⌜ r ≡ right format count rate byterate block ⌝ }
 {
     if count != CHANNELS {

@@ -1,7 +1,7 @@
 -- `headers::oeq_wave_write` meets its contract: the library call's answer, encoded, and what it leaves. Assumes nothing.
 use borrow.Author.Needs.{needs}
 use denote.Ref.{now}
-use Rattle.wave.specs.Header.{writeOf, writeAnswer}
+use Rattle.wave_writer.specs.Header.{writeOf, writeAnswer}
 use Rattle.capi.proofs.Encoding.{lent-fits, lent-returned}
 use Rattle.capi.proofs.Returnable.{write-counted}
 use Rattle.capi.proofs.headers.oeq_wave_write.Statement.{statement}

@@ -2,10 +2,10 @@
 use borrow.Author.Needs.{needs}
 use Rattle.answers.proofs.Branches.{judging}
 use Rattle.fields.proofs.ByTest.{dividing}
-use Rattle.wave.specs.Header.{writeOf}
+use Rattle.wave_writer.specs.Header.{writeOf}
 use Rattle.wave.proofs.RightValues.{rate-small}
-use Rattle.wave.proofs.writer.write.Statement.{statement}
-use Rattle.wave.proofs.writer.write.Tie as tie
+use Rattle.wave_writer.proofs.writer.write.Statement.{statement}
+use Rattle.wave_writer.proofs.writer.write.Tie as tie
 
 pub write-spec : {M : Type 1} → statement M
 unfolding writeOf

@@ -1,8 +1,8 @@
 -- `writer::put_header` meets its contract: five rows, one behind the other, are the header. Assumes nothing.
 use borrow.Author.Needs.{needs}
-use Rattle.wave.proofs.Writing.{header-row}
-use Rattle.wave.proofs.writer.put_header.Statement.{statement}
-use Rattle.wave.proofs.writer.put_header.Tie as tie
+use Rattle.wave_writer.proofs.Writing.{header-row}
+use Rattle.wave_writer.proofs.writer.put_header.Statement.{statement}
+use Rattle.wave_writer.proofs.writer.put_header.Tie as tie
 
 returns : tie.Need-returns
 returns c =

@@ -11,10 +11,10 @@ use Rattle.chunks.specs.Walk.{chunkHeader}
 use Rattle.samples.specs.Format.{bitsOf}
 use Rattle.samples.specs.declared.format.Format.{Format}
 use Rattle.samples.specs.declared.format.Format.the-variants.{Bits24}
 use Rattle.wave.specs.Names.{riff, wave, fmt, data′}
 use Rattle.wave.specs.Values.{fmtLength, channels, frameSize, knownRate}
-use Rattle.wave.specs.declared.writer.Written.{Written}
-use Rattle.wave.specs.declared.writer.Written.the-variants.{Header, WrongBuffer, WrongRate, WrongLength}
+use Rattle.wave_writer.specs.declared.writer.Written.{Written}
+use Rattle.wave_writer.specs.declared.writer.Written.the-variants.{Header, WrongBuffer, WrongRate, WrongLength}
 
 -- rule 8.13: the format that is written
 abbrev pub written : Format

@@ -1,8 +1,8 @@
 // The header writer: 44 bytes before 24-bit samples.
-use crate::values::CHANNELS;
-use crate::values::FMT_LENGTH;
-use crate::values::frame_size;
-use crate::values::known_rate;
+use wave::values::CHANNELS;
+use wave::values::FMT_LENGTH;
+use wave::values::frame_size;
+use wave::values::known_rate;
 use answers::unit::LARGEST_DATA;
 use chunks::lowest::put_chunk;
 use fields::lowest::put_four;
@@ -16,7 +16,7 @@ ghost use lib.ListN.{length};
 ghost use lib.Seq.{sets};
 ghost use Rattle.answers.specs.Checks.{Done};
 ghost use Rattle.answers.specs.Unit.{largestData};
-ghost use Rattle.wave.specs.Header.{headerBytes, header, fmtContents, writeOf};
+ghost use Rattle.wave_writer.specs.Header.{headerBytes, header, fmtContents, writeOf};
 
 // The bytes of the header.
 const HEADER_BYTES: usize = 44;
