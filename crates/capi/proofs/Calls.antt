@@ -14,12 +14,12 @@ use Rattle.gain.specs.declared.Command.{Command}
 use Rattle.wave_writer.specs.Header.{writeOf, writeAnswer}
 use Rattle.samples.specs.Sample.{fromBytes, toBytes, sampleAnswer, putAnswer}
 use Rattle.wave.specs.Walk.{readOf}
-use Rattle.capi.specs.Answers.{ofCount}
-use Rattle.capi.specs.Encode.{encode, decode}
+use Rattle.encoding.specs.Answers.{ofCount}
+use Rattle.encoding.specs.Encode.{encode, decode}
 use Rattle.capi.specs.Found.{ofFound}
-use Rattle.capi.specs.Parts.{Returnable, Counted}
-use Rattle.capi.proofs.Decoded.{decode-encode}
-use Rattle.capi.proofs.Encoding.{returnable-apart, counted-apart}
+use Rattle.encoding.specs.Parts.{Returnable, Counted}
+use Rattle.encoding.proofs.Decoded.{decode-encode}
+use Rattle.encoding.proofs.Encoding.{returnable-apart, counted-apart}
 use Rattle.capi.proofs.Reading.{read-counted}
 use Rattle.capi.proofs.Returnable.{length-counted, prepare-counted, block-counted, gain-returnable, write-counted, sample-returnable, put-counted}
 

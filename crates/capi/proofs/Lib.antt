@@ -1,5 +1,3 @@
-pub mod Encoding
-pub mod Decoded
 pub mod Returnable
 pub mod Reading
 pub mod Calls

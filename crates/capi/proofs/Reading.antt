@@ -11,7 +11,8 @@ use Rattle.samples.specs.Format.{bitsOf}
 use Rattle.wave.specs.Walk.{Found, readOf}
 use Rattle.wave.proofs.Answers.{Told, accepts, refuses, read-told, accepted-start}
 use Rattle.capi.specs.Found.{ofFound, foundAfter}
-use Rattle.capi.specs.Parts.{Counted, StartFits}
+use Rattle.encoding.specs.Parts.{Counted}
+use Rattle.capi.specs.Private.{StartFits}
 
 pub read-counted : (lent : List ℕ) → Counted (ofFound (readOf lent))
 read-counted lent = by (readOf lent) (read-told lent)

@@ -40,8 +40,8 @@ use Rattle.samples.specs.declared.single.Put.{Put}
 use Rattle.samples.specs.declared.single.Put.the-variants.{Done}
 use Rattle.samples.specs.declared.single.Sample.{Sample}
 use Rattle.wave_writer.specs.declared.writer.Written as writer
-use Rattle.capi.specs.Encode.{halfway}
-use Rattle.capi.specs.Parts.{Returnable, Counted}
+use Rattle.encoding.specs.Encode.{halfway}
+use Rattle.encoding.specs.Parts.{Returnable, Counted}
 
 -- ---- the equaliser's calls
 

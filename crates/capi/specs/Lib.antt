@@ -1,5 +1,3 @@
 -- What a C caller is returned, and what each call leaves in the lent places.
-pub mod Encode
-pub mod Answers
 pub mod Found
-pub mod Parts
+pub mod Private

@@ -1,16 +1,16 @@
 // The sample codec.
-use crate::code::CountParts;
-use crate::code::SignedParts;
-use crate::code::count;
-use crate::code::signed;
+use encoding::code::CountParts;
+use encoding::code::SignedParts;
+use encoding::code::count;
+use encoding::code::signed;
 use samples::Put;
 use samples::Sample;
 ghost use mathlib.Core.Path.{_≡_};
 ghost use lib.IntN.{pos};
 ghost use Rattle.samples.specs.Sample.{fromBytes, toBytes, sampleAnswer, putAnswer};
-ghost use Rattle.capi.specs.Answers.{ofCount, Returned};
-ghost use Rattle.capi.specs.Encode.{encode};
-ghost use Rattle.capi.specs.Parts.{Parts};
+ghost use Rattle.encoding.specs.Answers.{ofCount, Returned};
+ghost use Rattle.encoding.specs.Encode.{encode};
+ghost use Rattle.encoding.specs.Parts.{Parts};
 
 fn sample_parts(answer: Sample) -> SignedParts
     ensures { λ r. ⌜ Parts (pos 0) (sampleAnswer answer) (r .0) (r .1) (r .2) ⌝ }

@@ -1,6 +1,6 @@
 // The equaliser's calls.
-use crate::code::CountParts;
-use crate::code::count;
+use encoding::code::CountParts;
+use encoding::code::count;
 use octave::block::Blocked;
 use octave::block::block;
 use octave::memory::Length;
@@ -11,9 +11,9 @@ ghost use mathlib.Core.Path.{_≡_};
 ghost use Rattle.octave.specs.Answer.{lengthAnswer, preparedAnswer, blockAnswer};
 ghost use Rattle.octave.specs.Block.{blockOf};
 ghost use Rattle.octave.specs.Memory.{memoryLengthOf, prepareOf};
-ghost use Rattle.capi.specs.Answers.{ofCount, Returned};
-ghost use Rattle.capi.specs.Encode.{encode};
-ghost use Rattle.capi.specs.Parts.{Parts};
+ghost use Rattle.encoding.specs.Answers.{ofCount, Returned};
+ghost use Rattle.encoding.specs.Encode.{encode};
+ghost use Rattle.encoding.specs.Parts.{Parts};
 
 fn length_parts(answer: Length) -> CountParts
     ensures { λ r. ⌜ Parts 0 (lengthAnswer answer) (r .0) (r .1) (r .2) ⌝ }

@@ -1,6 +1,6 @@
 // The gain commands.
-use crate::code::SignedParts;
-use crate::code::signed;
+use encoding::code::SignedParts;
+use encoding::code::signed;
 use gain::Command;
 use gain::Gained;
 ghost use mathlib.Core.Path.{_≡_};
@@ -8,8 +8,8 @@ ghost use lib.IntN.{pos};
 ghost use Rattle.gain.specs.Answer.{answerOf};
 ghost use Rattle.gain.specs.Promise.{commandGain};
 ghost use Rattle.gain.specs.declared.Command.the-variants as command;
-ghost use Rattle.capi.specs.Encode.{encode};
-ghost use Rattle.capi.specs.Parts.{Parts};
+ghost use Rattle.encoding.specs.Encode.{encode};
+ghost use Rattle.encoding.specs.Parts.{Parts};
 
 fn gain_parts(answer: Gained) -> SignedParts
     ensures { λ r. ⌜ Parts (pos 0) (answerOf answer) (r .0) (r .1) (r .2) ⌝ }

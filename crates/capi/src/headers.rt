@@ -1,15 +1,16 @@
 // The WAVE header.
-use crate::code::CountParts;
-use crate::code::count;
+use encoding::code::CountParts;
+use encoding::code::count;
 use wave::Reading;
 use wave_writer::Written;
 ghost use mathlib.Core.Path.{_≡_};
 ghost use Rattle.wave_writer.specs.Header.{writeOf, writeAnswer};
 ghost use Rattle.wave.specs.Walk.{readOf, readAnswer};
-ghost use Rattle.capi.specs.Answers.{ofCount, Returned};
-ghost use Rattle.capi.specs.Encode.{encode};
+ghost use Rattle.encoding.specs.Answers.{ofCount, Returned};
+ghost use Rattle.encoding.specs.Encode.{encode};
 ghost use Rattle.capi.specs.Found.{ofFound, foundAfter};
-ghost use Rattle.capi.specs.Parts.{Parts, StartFits};
+ghost use Rattle.encoding.specs.Parts.{Parts};
+ghost use Rattle.capi.specs.Private.{StartFits};
 
 fn read_parts(answer: Reading) -> CountParts
     ensures { λ r. ⌜ Parts 0 (ofFound (readAnswer answer)) (r .0) (r .1) (r .2) ⌝ }

@@ -1,6 +1,5 @@
 // The C interface of the public calls, declared and documented in include/octave_eq.h. An export only encodes its call's
 // answer. None has a `requires`: C callers prove nothing.
-mod code;
 mod codec;
 mod equaliser;
 mod gains;

@@ -1,8 +1,4 @@
 // The header writer: 44 bytes before 24-bit samples.
-use wave::values::CHANNELS;
-use wave::values::FMT_LENGTH;
-use wave::values::frame_size;
-use wave::values::known_rate;
 use answers::unit::LARGEST_DATA;
 use chunks::lowest::put_chunk;
 use fields::lowest::put_four;
@@ -10,6 +6,10 @@ use fields::lowest::put_two;
 use fields::names::put_name;
 use samples::Format;
 use samples::bits;
+use wave::values::CHANNELS;
+use wave::values::FMT_LENGTH;
+use wave::values::frame_size;
+use wave::values::known_rate;
 ghost use mathlib.Core.Path.{_≡_};
 ghost use Prim.Native.Nat.{_+_, _≤_};
 ghost use lib.ListN.{length};

@@ -3,7 +3,7 @@ use mathlib.Core.Path.{ap}
 use borrow.Author.Needs.{needs}
 use denote.Ref.{now}
 use Rattle.samples.specs.Sample.{sampleAnswer}
-use Rattle.capi.proofs.Encoding.{signed-fits, signed-is}
+use Rattle.encoding.proofs.Encoding.{signed-fits, signed-is}
 use Rattle.capi.proofs.Returnable.{sample-returnable}
 use Rattle.capi.proofs.codec.oeq_sample_from_bytes.Statement.{statement}
 use Rattle.capi.proofs.codec.oeq_sample_from_bytes.Tie as tie

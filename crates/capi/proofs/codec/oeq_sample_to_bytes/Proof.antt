@@ -3,7 +3,7 @@ use borrow.Author.Needs.{needs}
 use denote.Ref.{now}
 use mir.Facts.{toZ-ofZ}
 use Rattle.samples.specs.Sample.{toBytes, putAnswer}
-use Rattle.capi.proofs.Encoding.{lent-fits, lent-returned}
+use Rattle.encoding.proofs.Encoding.{lent-fits, lent-returned}
 use Rattle.capi.proofs.Returnable.{put-counted}
 use Rattle.capi.proofs.codec.oeq_sample_to_bytes.Statement.{statement}
 use Rattle.capi.proofs.codec.oeq_sample_to_bytes.Tie as tie

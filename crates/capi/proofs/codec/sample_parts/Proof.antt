@@ -6,7 +6,7 @@ use mir.Facts.{toZ-ofZ}
 use mir.Syntax.{w32}
 use Rattle.samples.specs.Sample.{sampleAnswer}
 use Rattle.samples.specs.declared.single.Sample.{Sample}
-use Rattle.capi.specs.Parts.{valueIn}
+use Rattle.encoding.specs.Parts.{valueIn}
 use Rattle.capi.proofs.codec.sample_parts.Statement.{statement}
 use Rattle.capi.proofs.codec.sample_parts.Tie as tie
 

@@ -3,7 +3,7 @@ use borrow.Author.Needs.{needs}
 use denote.Ref.{now}
 use Rattle.octave.specs.Answer.{blockAnswer}
 use Rattle.octave.specs.Block.{blockOf}
-use Rattle.capi.proofs.Encoding.{lent-fits, lent-returned}
+use Rattle.encoding.proofs.Encoding.{lent-fits, lent-returned}
 use Rattle.capi.proofs.Returnable.{block-counted}
 use Rattle.capi.proofs.equaliser.oeq_block.Statement.{statement}
 use Rattle.capi.proofs.equaliser.oeq_block.Tie as tie

@@ -4,7 +4,7 @@ use borrow.Author.Needs.{needs}
 use mir.Facts.{toZ-ofZ}
 use Rattle.octave.specs.Answer.{lengthAnswer}
 use Rattle.octave.specs.Memory.{memoryLengthOf}
-use Rattle.capi.proofs.Encoding.{count-fits, count-is}
+use Rattle.encoding.proofs.Encoding.{count-fits, count-is}
 use Rattle.capi.proofs.Returnable.{length-counted}
 use Rattle.capi.proofs.equaliser.oeq_memory_length.Statement.{statement}
 use Rattle.capi.proofs.equaliser.oeq_memory_length.Tie as tie

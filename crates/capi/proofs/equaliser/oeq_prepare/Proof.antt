@@ -4,7 +4,7 @@ use denote.Ref.{now}
 use mir.Facts.{toZ-ofZ}
 use Rattle.octave.specs.Answer.{preparedAnswer}
 use Rattle.octave.specs.Memory.{prepareOf}
-use Rattle.capi.proofs.Encoding.{lent-fits, lent-returned}
+use Rattle.encoding.proofs.Encoding.{lent-fits, lent-returned}
 use Rattle.capi.proofs.Returnable.{prepare-counted}
 use Rattle.capi.proofs.equaliser.oeq_prepare.Statement.{statement}
 use Rattle.capi.proofs.equaliser.oeq_prepare.Tie as tie

@@ -2,7 +2,7 @@
 use mathlib.Core.Path.{ap}
 use borrow.Author.Needs.{needs}
 use Rattle.gain.specs.Answer.{answerOf}
-use Rattle.capi.proofs.Encoding.{signed-fits, signed-is}
+use Rattle.encoding.proofs.Encoding.{signed-fits, signed-is}
 use Rattle.capi.proofs.Returnable.{gain-returnable}
 use Rattle.capi.proofs.gains.gain_code.Statement.{statement}
 use Rattle.capi.proofs.gains.gain_code.Tie as tie

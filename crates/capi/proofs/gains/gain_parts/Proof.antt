@@ -6,7 +6,7 @@ use mir.Facts.{toZ-ofZ}
 use mir.Syntax.{w32}
 use Rattle.gain.specs.Answer.{answerOf}
 use Rattle.gain.specs.declared.Gained.{Gained}
-use Rattle.capi.specs.Parts.{valueIn}
+use Rattle.encoding.specs.Parts.{valueIn}
 use Rattle.capi.proofs.gains.gain_parts.Statement.{statement}
 use Rattle.capi.proofs.gains.gain_parts.Tie as tie
 

@@ -5,8 +5,8 @@ use denote.Ref.{now}
 use Rattle.answers.specs.Answer.{Answer}
 use Rattle.wave.specs.Walk.{Found}
 use Rattle.capi.specs.Found.{ofFound, foundAfter}
-use Rattle.capi.specs.Parts.{StartFits}
-use Rattle.capi.proofs.Encoding.{count-fits, count-is}
+use Rattle.capi.specs.Private.{StartFits}
+use Rattle.encoding.proofs.Encoding.{count-fits, count-is}
 use Rattle.capi.proofs.Reading.{read-counted, start-fits}
 use Rattle.capi.proofs.headers.oeq_wave_read.Statement.{statement}
 use Rattle.capi.proofs.headers.oeq_wave_read.Tie as tie

@@ -2,7 +2,7 @@
 use borrow.Author.Needs.{needs}
 use denote.Ref.{now}
 use Rattle.wave_writer.specs.Header.{writeOf, writeAnswer}
-use Rattle.capi.proofs.Encoding.{lent-fits, lent-returned}
+use Rattle.encoding.proofs.Encoding.{lent-fits, lent-returned}
 use Rattle.capi.proofs.Returnable.{write-counted}
 use Rattle.capi.proofs.headers.oeq_wave_write.Statement.{statement}
 use Rattle.capi.proofs.headers.oeq_wave_write.Tie as tie

@@ -5,7 +5,7 @@ use denote.Ref.{now}
 use Rattle.wave.specs.Walk.{readAnswer}
 use Rattle.wave.specs.declared.reader.Reading.{Reading}
 use Rattle.capi.specs.Found.{foundAfter}
-use Rattle.capi.specs.Parts.{StartFits}
+use Rattle.capi.specs.Private.{StartFits}
 use Rattle.capi.proofs.headers.store.Statement.{statement}
 use Rattle.capi.proofs.headers.store.Tie as tie
 

@@ -4,10 +4,10 @@ use borrow.Author.Needs.{needs, sfits-of}
 use mir.Syntax.{w32}
 use mir.Val.{SFits}
 use Rattle.whole.proofs.Product.{widens}
-use Rattle.capi.specs.Parts.{encodeParts}
-use Rattle.capi.proofs.Encoding.{returned}
-use Rattle.capi.proofs.code.signed.Statement.{statement}
-use Rattle.capi.proofs.code.signed.Tie as tie
+use Rattle.encoding.specs.Parts.{encodeParts}
+use Rattle.encoding.proofs.Encoding.{returned}
+use Rattle.encoding.proofs.code.signed.Statement.{statement}
+use Rattle.encoding.proofs.code.signed.Tie as tie
 
 -- the value is a machine number
 small : (c : tie.After-struct-told) → SFits w32 (c .before .before .args .a .2)

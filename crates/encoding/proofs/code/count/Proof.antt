@@ -3,10 +3,10 @@ use mathlib.Core.Path.{ap, _∙_}
 use borrow.Author.Needs.{needs}
 use mir.Facts.{toZ-pos}
 use mir.Syntax.{w64}
-use Rattle.capi.specs.Parts.{encodeParts}
-use Rattle.capi.proofs.Encoding.{returned}
-use Rattle.capi.proofs.code.count.Statement.{statement}
-use Rattle.capi.proofs.code.count.Tie as tie
+use Rattle.encoding.specs.Parts.{encodeParts}
+use Rattle.encoding.proofs.Encoding.{returned}
+use Rattle.encoding.proofs.code.count.Statement.{statement}
+use Rattle.encoding.proofs.code.count.Tie as tie
 
 returns : tie.Need-returns
 returns c =

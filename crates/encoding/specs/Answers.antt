@@ -4,7 +4,7 @@ use Prim.Native.Nat.{ℕ}
 use lib.IntN.{ℤ, pos}
 use Rattle.answers.specs.Answer.{Answer, accepted, refused}
 use Rattle.answers.specs.Checks.{Outcome}
-use Rattle.capi.specs.Encode.{encode}
+use Rattle.encoding.specs.Encode.{encode}
 
 -- rule 12.2: a length, a delay, a number of samples or of bytes
 abbrev pub ofCount : Answer ℕ → Answer ℤ

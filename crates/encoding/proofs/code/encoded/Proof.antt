@@ -4,9 +4,9 @@ use native.Mathlib.Omega.{arith}
 use borrow.Author.Needs.{needs}
 use borrow.Author.Tests.{eq-eqb, ne-eqb}
 use mir.Facts.{toZ-ofZ}
-use Rattle.capi.proofs.Encoding.{Sum, sum}
-use Rattle.capi.proofs.code.encoded.Statement.{statement}
-use Rattle.capi.proofs.code.encoded.Tie as tie
+use Rattle.encoding.proofs.Encoding.{Sum, sum}
+use Rattle.encoding.proofs.code.encoded.Statement.{statement}
+use Rattle.encoding.proofs.code.encoded.Tie as tie
 
 returns : tie.Need-returns
 returns c = rw (eq-eqb (c .before .args .number) 0 (c .if1 .taken)) (toZ-ofZ (c .before .fits .value))

@@ -6,8 +6,7 @@ use lib.Dec.{eqb}
 use lib.IntN.{ℤ, pos, _+ℤ_}
 use lib.Signed.{ltZ}
 use Rattle.answers.specs.Answer.{Answer, accepted, refused, numberIn, placeIn}
-use Rattle.wave.specs.Walk.{Found}
-use Rattle.capi.specs.Encode.{least, halfway}
+use Rattle.encoding.specs.Encode.{least, halfway}
 
 -- the value of an accepted answer, and another one for a refusal
 abbrev pub valueIn : {A : Type 0} → A → Answer A → A
@@ -37,8 +36,3 @@ Returnable (refused number place) = Refusal number place
 abbrev pub Counted : Answer ℕ → Type 0
 Counted (accepted n) = n < 2 ^ 63
 Counted (refused number place) = Refusal number place
-
--- what was found starts at a place that 32 bits hold
-abbrev pub StartFits : Answer Found → Type 0
-StartFits (accepted f) = f .start < 2 ^ 32
-StartFits (refused number place) = Unit

@@ -11,9 +11,9 @@ use mir.Val.{SFits, toZ, ofZ}
 use mir.Facts.{toZ-ofZ, toZ-pos}
 use Rattle.answers.specs.Answer.{Answer, accepted, refused, numberIn, placeIn}
 use Rattle.answers.specs.Checks.{Outcome, Done}
-use Rattle.capi.specs.Answers.{ofCount, Returned}
-use Rattle.capi.specs.Encode.{least, encode, Apart}
-use Rattle.capi.specs.Parts.{valueIn, Parts, encodeParts, Returnable, Counted}
+use Rattle.encoding.specs.Answers.{ofCount, Returned}
+use Rattle.encoding.specs.Encode.{least, encode, Apart}
+use Rattle.encoding.specs.Parts.{valueIn, Parts, encodeParts, Returnable, Counted}
 
 -- ---- 64 bits
 

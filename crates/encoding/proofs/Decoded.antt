@@ -7,8 +7,8 @@ use borrow.Author.Tests.{lt-ltb, le-ltb}
 use lib.IntN.{ℤ, pos, natAbs, _+ℤ_, _-ℤ_}
 use lib.Signed.{ltZ}
 use Rattle.answers.specs.Answer.{Answer, accepted, refused}
-use Rattle.capi.specs.Encode.{least, halfway, encode, decode, Apart}
-use Rattle.capi.proofs.Encoding.{above-least}
+use Rattle.encoding.specs.Encode.{least, halfway, encode, decode, Apart}
+use Rattle.encoding.proofs.Encoding.{above-least}
 
 -- ---- a refusal's code
 
