@@ -16,7 +16,7 @@ use Rattle.samples.specs.Sample.{fromBytes, toBytes, sampleAnswer, putAnswer}
 use Rattle.wave.specs.Walk.{readOf}
 use Rattle.encoding.specs.Answers.{ofCount}
 use Rattle.encoding.specs.Encode.{encode, decode}
-use Rattle.capi.specs.Found.{ofFound}
+use Rattle.parts.specs.Found.{ofFound}
 use Rattle.encoding.specs.Parts.{Returnable, Counted}
 use Rattle.encoding.proofs.Decoded.{decode-encode}
 use Rattle.encoding.proofs.Encoding.{returnable-apart, counted-apart}

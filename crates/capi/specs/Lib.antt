@@ -1,3 +1,2 @@
 -- What a C caller is returned, and what each call leaves in the lent places.
-pub mod Found
 pub mod Private

@@ -1,25 +1,12 @@
 // The gain commands.
-use encoding::code::SignedParts;
 use encoding::code::signed;
 use gain::Command;
-use gain::Gained;
+use parts::gains::gain_parts;
 ghost use mathlib.Core.Path.{_≡_};
-ghost use lib.IntN.{pos};
 ghost use Rattle.gain.specs.Answer.{answerOf};
 ghost use Rattle.gain.specs.Promise.{commandGain};
 ghost use Rattle.gain.specs.declared.Command.the-variants as command;
 ghost use Rattle.encoding.specs.Encode.{encode};
-ghost use Rattle.encoding.specs.Parts.{Parts};
-
-fn gain_parts(answer: Gained) -> SignedParts
-    ensures { λ r. ⌜ Parts (pos 0) (answerOf answer) (r .0) (r .1) (r .2) ⌝ }
-{
-    match answer {
-        Gained::Gain(g) => SignedParts(0, 0, g),
-        Gained::NotHalfDecibels => SignedParts(11, 0, 0),
-        Gained::NotFactor => SignedParts(12, 0, 0),
-    }
-}
 
 fn gain_code(command: Command) -> i64
     ensures { λ r. ⌜ r ≡ encode (answerOf (commandGain command)) ⌝ }

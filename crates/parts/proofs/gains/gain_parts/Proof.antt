@@ -7,8 +7,8 @@ use mir.Syntax.{w32}
 use Rattle.gain.specs.Answer.{answerOf}
 use Rattle.gain.specs.declared.Gained.{Gained}
 use Rattle.encoding.specs.Parts.{valueIn}
-use Rattle.capi.proofs.gains.gain_parts.Statement.{statement}
-use Rattle.capi.proofs.gains.gain_parts.Tie as tie
+use Rattle.parts.proofs.gains.gain_parts.Statement.{statement}
+use Rattle.parts.proofs.gains.gain_parts.Tie as tie
 
 returns : tie.Need-returns
 returns c =

@@ -7,8 +7,8 @@ use mir.Syntax.{w32}
 use Rattle.samples.specs.Sample.{sampleAnswer}
 use Rattle.samples.specs.declared.single.Sample.{Sample}
 use Rattle.encoding.specs.Parts.{valueIn}
-use Rattle.capi.proofs.codec.sample_parts.Statement.{statement}
-use Rattle.capi.proofs.codec.sample_parts.Tie as tie
+use Rattle.parts.proofs.codec.sample_parts.Statement.{statement}
+use Rattle.parts.proofs.codec.sample_parts.Tie as tie
 
 returns : tie.Need-returns
 returns c =

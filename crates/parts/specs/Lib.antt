@@ -1,0 +1,2 @@
+-- What a C caller is returned of the header reader.
+pub mod Found
