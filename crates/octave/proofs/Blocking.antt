@@ -26,11 +26,11 @@ use Rattle.octave.specs.Memory.{lineLength, headPlaces, heldIn, memoryOf
 use Rattle.weighing.specs.Weighing.{outputs}
 use Rattle.octave.specs.Block.{equalised}
 use Rattle.weighing.specs.Helpers.{Allowed}
-use Rattle.octave.specs.Helpers.{RunDone}
+use Rattle.block_rows.specs.Helpers.{RunDone}
 use Rattle.octave.proofs.Ranges.{within-parts}
 use Rattle.octave.proofs.Layouts.{line-small}
 use Rattle.octave.proofs.Memories.{lent-is, memory-with, Accepted}
-use Rattle.octave.proofs.Running.{wrapped-inside}
+use Rattle.block_rows.proofs.Running.{wrapped-inside}
 
 -- ---- the gains
 

@@ -2,5 +2,4 @@
 pub mod Ranges
 pub mod Layouts
 pub mod Memories
-pub mod Running
 pub mod Blocking

@@ -8,12 +8,12 @@ use crate::layout::POSITION;
 use crate::layout::line_length;
 use crate::memory::Kept;
 use crate::memory::judge;
-use crate::run::run;
 use answers::range::first_outside;
 use answers::unit::BLOCK_LIMIT;
 use answers::unit::LARGEST_GAIN;
 use answers::unit::LEAST_SAMPLE;
 use answers::unit::MOST_SAMPLE;
+use block_rows::run::run;
 
 // What a block answers: how many samples were written, or why it was refused.
 pub enum Blocked {

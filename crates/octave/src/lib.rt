@@ -2,4 +2,3 @@
 pub mod block;
 mod layout;
 pub mod memory;
-mod run;

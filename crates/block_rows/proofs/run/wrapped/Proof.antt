@@ -1,7 +1,7 @@
 -- `run::wrapped` meets its contract. Assumes nothing.
-use Rattle.octave.proofs.Running.{wrapped-in, wrapped-round}
-use Rattle.octave.proofs.run.wrapped.Statement.{statement}
-use Rattle.octave.proofs.run.wrapped.Tie as tie
+use Rattle.block_rows.proofs.Running.{wrapped-in, wrapped-round}
+use Rattle.block_rows.proofs.run.wrapped.Statement.{statement}
+use Rattle.block_rows.proofs.run.wrapped.Tie as tie
 
 returns : tie.Need-returns
 returns c = let a = c .before .args in wrapped-in (a .size) (a .at) (c .if1 .taken)

@@ -8,9 +8,9 @@ use denote.Ref.{now}
 use Rattle.tree.specs.Signal.{gainOf}
 use Rattle.weighing.specs.Helpers.{Differ}
 use Rattle.weighing.proofs.Differing.{none-above}
-use Rattle.octave.proofs.Running.{Going, going-starts, row-region, out-length, going-on, going-ends}
-use Rattle.octave.proofs.run.each_row.Statement.{statement}
-use Rattle.octave.proofs.run.each_row.Tie as tie
+use Rattle.block_rows.proofs.Running.{Going, going-starts, row-region, out-length, going-on, going-ends}
+use Rattle.block_rows.proofs.run.each_row.Statement.{statement}
+use Rattle.block_rows.proofs.run.each_row.Tie as tie
 
 abbrev Inv-loop : tie.InvT-loop
 Inv-loop lines₀ size from bands gains input rows₀ output₀ differences at₀ i₀ lines rows output at i =

@@ -24,7 +24,7 @@ use Rattle.lines.proofs.Interchange.{rows-count, rows-even}
 use Rattle.lines.proofs.Turns.{turn}
 use Rattle.weighing.specs.Weighing.{outOf, bandSum, outputs}
 use Rattle.weighing.specs.Helpers.{Differ, RowWeighed}
-use Rattle.octave.specs.Helpers.{RowAnswered, RunDone}
+use Rattle.block_rows.specs.Helpers.{RowAnswered, RunDone}
 
 -- ---- the position
 

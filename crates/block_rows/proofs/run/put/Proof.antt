@@ -3,9 +3,9 @@ use Prim.Native.Nat.{_-_}
 use lib.ListN.{length}
 use borrow.Author.Needs.{needs, sfits-of}
 use denote.Ref.{now}
-use Rattle.octave.proofs.Running.{Putting, putting-starts, putting-on, putting-ends}
-use Rattle.octave.proofs.run.put.Statement.{statement}
-use Rattle.octave.proofs.run.put.Tie as tie
+use Rattle.block_rows.proofs.Running.{Putting, putting-starts, putting-on, putting-ends}
+use Rattle.block_rows.proofs.run.put.Statement.{statement}
+use Rattle.block_rows.proofs.run.put.Tie as tie
 
 abbrev Inv-loop : tie.InvT-loop
 Inv-loop input rows₀ i₀ rows i = Putting input rows₀ rows i

@@ -8,7 +8,7 @@ ghost use Rattle.lines.specs.Cascade.{run};
 ghost use Rattle.lines.specs.Rows.{rowPlaces, wrapped, rowed};
 ghost use Rattle.lines.specs.Helpers.{Region, RowRegion};
 ghost use Rattle.weighing.specs.Helpers.{Allowed, Small};
-ghost use Rattle.octave.specs.Helpers.{RowAnswered, RunDone};
+ghost use Rattle.block_rows.specs.Helpers.{RowAnswered, RunDone};
 use lines::cascade::cascade;
 use lines::row::ROW;
 use weighing::differences::differences;
@@ -107,7 +107,7 @@ fn each_row(
 }
 
 // Every sample of the block, from the position `from`; answers the position afterwards.
-pub(crate) fn run(
+pub fn run(
     lines: &mut [i32],
     size: usize,
     from: usize,

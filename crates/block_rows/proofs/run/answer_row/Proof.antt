@@ -2,10 +2,10 @@
 use mathlib.Core.Path.{_∙_}
 use native.Mathlib.Omega.{arith}
 use denote.Ref.{now}
-use Rattle.octave.proofs.Running.{row-answered}
+use Rattle.block_rows.proofs.Running.{row-answered}
 use borrow.Author.Needs.{needs}
-use Rattle.octave.proofs.run.answer_row.Statement.{statement}
-use Rattle.octave.proofs.run.answer_row.Tie as tie
+use Rattle.block_rows.proofs.run.answer_row.Statement.{statement}
+use Rattle.block_rows.proofs.run.answer_row.Tie as tie
 
 cascade-requires : tie.Need-cascade-requires
 cascade-requires c κs =
