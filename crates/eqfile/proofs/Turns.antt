@@ -54,7 +54,6 @@ turn-is size samples at read all left fed early skipped wanted a l f e s w =
 
 pub record Bounds (samples at : ℕ) (t : Turn) : Type 0 where
   pub fed-most : t .fed ≤ blockLimit
-  pub fed-left : t .fed ≤ fedInAll samples - at
   pub fed-some : at < fedInAll samples → 0 < t .fed
   pub wanted-most : t .wanted ≤ 3 * t .fed
   pub skipped-most : t .skipped ≤ t .fed
@@ -75,7 +74,6 @@ turn-bounds format samples at read =
     let fed = min blockLimit (fedInAll samples - at) in
     record {
       fed-most = omega arith;
-      fed-left = omega arith;
       fed-some = λ h. omega arith;
       wanted-most = omega (arith, wanted-few (sizeOf format) samples at read fed, mul-le-mul-right fed (few-bytes format .1));
       skipped-most = omega arith;

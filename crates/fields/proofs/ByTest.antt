@@ -30,12 +30,6 @@ and-goes a b r e d = rw e d
 
 pub ruleset anding = (and-stops, and-goes, branches)
 
-pub and-no : (a b : Bool) → a ≡ false → (a && b) ≡ false
-and-no a b e = rw e
-
-pub and-yes : (a b r : Bool) → a ≡ true → b ≡ r → (a && b) ≡ r
-and-yes a b r e d = rw e d
-
 module _ (A : Type 0) (r x y : A) where
   pub picks-first : (t : Bool) → t ≡ true → r ≡ x → r ≡ cond t x y
   picks-first t e d = rw e d

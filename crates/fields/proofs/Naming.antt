@@ -29,9 +29,6 @@ same-is (a ∷ s) (b ∷ t) h =
     ap (λ (x : ℕ). x ∷ s) (eqb-true a b (and-left (eqb a b) (same s t) h))
     ∙ ap (λ (r : List ℕ). b ∷ r) (same-is s t (and-right (eqb a b) (same s t) h))
 
-pub same-differs : (s t : List ℕ) → same s t ≡ false → s ≡ t → ⊥
-same-differs s t h e = true≢false (sym (same-self s) ∙ ap (same s) e ∙ h)
-
 -- ---- four bytes, one by one
 
 take-4 : (t : List ℕ) → 4 ≤ length t → take 4 t ≡ getD t 0 0 ∷ getD t 1 0 ∷ getD t 2 0 ∷ getD t 3 0 ∷ []

@@ -40,11 +40,6 @@ unfolding little
 length-little zero n = refl
 length-little (suc k) n = ap suc (length-little k (n / 256))
 
-pub bytes-little : (k n : ℕ) → Bytes (little k n)
-unfolding little
-bytes-little zero n = no-bytes
-bytes-little (suc k) n = bytes-cons (n % 256) (little k (n / 256)) (omega arith) (bytes-little k (n / 256))
-
 -- ---- there and back
 
 pub number-little : (k n : ℕ) → n < 256 ^ k → number (little k n) ≡ n

@@ -6,9 +6,9 @@ use native.Mathlib.Nat.{add-zero, add-suc, suc-add, add-comm, mul-comm, mod-lt, 
 use lib.Pow.{pow-add}
 use native.Mathlib.Omega.{arith}
 use lib.ListN.{length, getD, take, drop, set, length-reverse, length-drop, drop-of-length-le}
-use lib.Seq.{sets, sets-eq, take-add, take-nil, drop-drop, length-take-le, getD-drop, take-at, drop-at}
+use lib.Seq.{sets, sets-eq, take-add, drop-drop, length-take-le, getD-drop, take-at, drop-at}
 use Rattle.fields.specs.Bytes.{Bytes, Order, lowest, highest, number, little, ordered, numberIn, field, row}
-use Rattle.fields.proofs.Numbers.{bytes-cons, no-bytes, pow-positive, length-little, bytes-little, number-little, little-number, number-below, number-append, little-parts}
+use Rattle.fields.proofs.Numbers.{bytes-cons, no-bytes, pow-positive, length-little, number-little, little-number, number-below, number-append, little-parts}
 
 -- ---- orders
 
@@ -36,10 +36,6 @@ bytes-ordered highest s bytes = bytes-behind s [] bytes no-bytes
 pub length-row : (order : Order) (k n : ℕ) → length (row order k n) ≡ k
 unfolding row
 length-row order k n = length-ordered order (little k n) ∙ length-little k n
-
-pub bytes-row : (order : Order) (k n : ℕ) → Bytes (row order k n)
-unfolding row
-bytes-row order k n = bytes-ordered order (little k n) (bytes-little k n)
 
 pub number-row : (order : Order) (k n : ℕ) → n < 256 ^ k → numberIn order (row order k n) ≡ n
 unfolding row numberIn
@@ -121,26 +117,6 @@ one-byte highest (b ∷ t) = omega arith
 pub field-1 : (order : Order) (s : List ℕ) (place : ℕ) → field order s place 1 ≡ getD s place 0
 unfolding field
 field-1 order s place = one-byte order (drop place s) ∙ getD-drop place s 0 0 ∙ ap (λ (i : ℕ). getD s i 0) (add-zero place)
-
--- byte by byte, the lowest first, whether or not the bytes are there
-number-take : (k : ℕ) (t : List ℕ) → number (take (suc k) t) ≡ getD t 0 0 + 256 * number (take k (drop 1 t))
-unfolding number
-number-take k [] = rw (take-nil k)
-number-take k (b ∷ t) = refl
-
-field-suc : (s : List ℕ) (place k : ℕ) → field lowest s place (suc k) ≡ getD s place 0 + 256 * field lowest s (place + 1) k
-unfolding field numberIn ordered
-field-suc s place k =
-    number-take k (drop place s)
-    ∙ rw (getD-drop place s 0 0, add-zero place, drop-drop 1 place s)
-
-pub field-2 : (s : List ℕ) (place : ℕ) → field lowest s place 2 ≡ getD s place 0 + 256 * getD s (place + 1) 0
-field-2 s place = field-suc s place 1 ∙ ap (λ (n : ℕ). getD s place 0 + 256 * n) (field-1 lowest s (place + 1))
-
-pub field-3 : (s : List ℕ) (place : ℕ) → field lowest s place 3 ≡ getD s place 0 + 256 * getD s (place + 1) 0 + 65536 * getD s (place + 2) 0
-field-3 s place =
-    let last : getD s (place + 1 + 1) 0 ≡ getD s (place + 2) 0 = ap (λ (i : ℕ). getD s i 0) (omega arith) in
-    omega (arith, field-suc s place 2, field-2 s (place + 1))
 
 -- a number read in two parts
 pub read-parts : (order : Order) (j k : ℕ) (s : List ℕ) (place a b : ℕ) → place + (j + k) ≤ length s →

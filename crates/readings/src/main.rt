@@ -1,13 +1,9 @@
 // Runs the cases that standard input has: the memory length, prepare and block at every edge, and courses of blocks at 2, 3, 8 and
 // 10 bands. A case is a few numbers: what is asked, then its own. tests/readings.py writes the cases, and works out from the rules
 // what this program is to write.
-mod answer;
-mod call;
-mod fill;
-mod words;
-
-use fill::fill;
-use words::word;
+use cases::fill::fill;
+use cases::words::word;
+use reading_calls::call;
 
 // One case, on lists that are as the cases before it left them.
 fn one(

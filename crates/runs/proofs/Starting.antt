@@ -48,7 +48,6 @@ started texts before gains a front rate format samples start eight few all begin
 pub record Stated (front : List ℕ) (rate : ℕ) (format : Format) (samples start : ℕ) : Type 0 where
   pub found : Found
   pub read : readOf front ≡ accepted found
-  pub rate-is : found .rate ≡ rate
   pub start-is : found .start ≡ start
   pub known : knownRate rate ≡ true
   -- the length of `data`
@@ -80,7 +79,6 @@ stated-plan front f read rate format samples start = by (ltb largestData (3 * (f
         record {
           found = f;
           read = read;
-          rate-is = sym r;
           start-is = sym (ap (λ (a : Answer Plan). planIn a .start) e);
           known = subst (λ (k : ℕ). knownRate k ≡ true) (sym r) (accepted-rate front f read);
           size-is = whole (f .size) (sizeOf (f .format)) (sym (ap (λ (k : ℕ). f .size % k) (frame-is (f .format))) ∙ accepted-whole front f read) ∙ ap (λ (k : ℕ). sizeOf (f .format) * k) (sym n) ∙ ap (λ (x : Format). sizeOf x * samples) (sym b);

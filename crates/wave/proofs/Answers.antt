@@ -1,5 +1,5 @@
 -- What an answer of the finder and of the reader tells, for the crates above: they go by its cases, and never walk again. Assumes nothing.
-use mathlib.Core.Path.{_≡_, refl, sym, ap, _∙_, subst}
+use mathlib.Core.Path.{_≡_, refl, ap, _∙_, subst}
 use mathlib.Core.Bool.{true, _&&_}
 use mathlib.Core.List.{List}
 use Prim.Native.Nat.{ℕ, _+_, _-_, _%_, _≤_}
@@ -14,11 +14,10 @@ use Rattle.fields.proofs.ByTest.{cond-case}
 use Rattle.chunks.specs.Walk.{headerLength, sizeIn, named, Step, ends, walk}
 use Rattle.chunks.proofs.Headers.{size-there}
 use Rattle.chunks.proofs.Walks.{Visited, cuts, steps, visited}
-use Rattle.chunks.proofs.Deciding.{Comes, comes-further, landing, kept}
+use Rattle.chunks.proofs.Deciding.{Comes, landing, kept}
 use Rattle.wave.specs.Names.{riff, wave, data′}
 use Rattle.wave.specs.Values.{frameSize, knownRate}
-use Rattle.wave.specs.Walk.{Found, Seen, nothing, chunk, find, findOf, wholeFrames, readOf, readAnswer}
-use Rattle.wave.specs.declared.reader.Reading.{Reading}
+use Rattle.wave.specs.Walk.{Found, Seen, nothing, chunk, find, findOf, wholeFrames, readOf}
 use Rattle.wave.proofs.Steps.{Good, Says, goes, lands, chunk-says}
 use Rattle.wave.proofs.Steps as says
 
@@ -91,12 +90,6 @@ pub find-told : (lent : List ℕ) → Told (Landed (take frontLength lent)) 24 (
 unfolding findOf
 find-told lent = front-told (take frontLength lent)
 
-pub found-means : (lent : List ℕ) (f : Found) → findOf lent ≡ accepted f → Landed (take frontLength lent) f
-found-means lent f e = by (subst (Told (Landed (take frontLength lent)) 24) e (find-told lent))
-  where
-    by : Told (Landed (take frontLength lent)) 24 (accepted f) → Landed (take frontLength lent) f
-    by (accepts l) = l
-
 -- the length stands in the four bytes before the start
 pub length-field : (front : List ℕ) (f : Found) → Landed front f → f .size ≡ field lowest front (f .start - 4) 4
 length-field front f l =
@@ -120,10 +113,6 @@ read-told lent = by (findOf lent) (find-told lent)
         (λ h. accepts (record { landed = l; whole-frames = eqb-true (f .size % frameSize (f .format)) 0 h })) (λ _. refuses (lit≤ tt) (lit≤ tt))
     by (refused n place) (refuses l m) = refuses l (omega arith)
 
--- .. of the call's answer
-pub read-answers : (front : List ℕ) (r : Reading) → readAnswer r ≡ readOf front → Told (Acceptable front) 25 (readAnswer r)
-read-answers front r e = subst (Told (Acceptable front) 25) (sym e) (read-told front)
-
 -- ---- an accepted answer
 
 module _ (lent : List ℕ) (f : Found) where
@@ -138,12 +127,6 @@ module _ (lent : List ℕ) (f : Found) where
   accepted-start e =
       let l = accepted-means e .landed in
       omega (arith, l .whole, l .start-is, length-take frontLength lent)
-
-  -- .. behind the names and a header
-  pub accepted-behind : readOf lent ≡ accepted f → 12 + headerLength ≤ f .start
-  accepted-behind e =
-      let l = accepted-means e .landed in
-      omega (arith, l .start-is, comes-further lowest (refused 24 0) chunk (take frontLength lent) 12 (l .place) nothing (l .last) (l .comes))
 
   pub accepted-rate : readOf lent ≡ accepted f → knownRate (f .rate) ≡ true
   accepted-rate e = accepted-means e .landed .rate-known

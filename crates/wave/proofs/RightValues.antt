@@ -4,12 +4,10 @@ use mathlib.Core.Bool.{Bool, true, _||_}
 use Prim.Native.Nat.{ℕ, _*_, _<_, _≤_}
 use native.Mathlib.Omega.{arith}
 use native.Mathlib.Nat.{mul-le-mul}
-use lib.Dec.{eqb, lit<}
+use lib.Dec.{eqb}
 use borrow.Author.Tests.{eqb-true}
-use Rattle.samples.specs.declared.format.Format.{Format}
-use Rattle.samples.specs.declared.format.Format.the-variants.{Bits16, Bits24}
 use Rattle.fields.proofs.ByTest.{by-test}
-use Rattle.wave.specs.Values.{frameSize, knownRate}
+use Rattle.wave.specs.Values.{knownRate}
 
 -- neither rate is above 48,000
 pub rate-small : (rate : ℕ) → knownRate rate ≡ true → rate ≤ 48000
@@ -25,11 +23,6 @@ product-fits rate size r s =
     let three : size ≤ 3 = omega arith in
     let l : rate * size ≤ 48000 * 3 = mul-le-mul r three in
     omega arith
-
--- a frame has bytes
-pub frame-positive : (format : Format) → 0 < frameSize format
-frame-positive Bits16 = lit< tt
-frame-positive Bits24 = lit< tt
 
 -- a byte rate is tested against a frame's bytes
 pub by-frame : (rate byteRate size : ℕ) {frame : ℕ} → size ≡ frame → eqb byteRate (rate * size) ≡ eqb byteRate (rate * frame)

@@ -1,10 +1,13 @@
 // One call, told: what is asked, what is answered, and how many lent places have changed.
-use crate::answer;
-use crate::words::place;
-use crate::words::word;
+use crate::answer::answer;
+use cases::words::place;
+use cases::words::word;
 use octave::block::block;
 use octave::memory::memory_length;
 use octave::memory::prepare;
+use parts::equaliser::block_parts;
+use parts::equaliser::length_parts;
+use parts::equaliser::prepared_parts;
 use printing::count;
 use printing::line;
 use printing::places::compared;
@@ -14,24 +17,24 @@ use printing::signed_field;
 use printing::text;
 use printing::told;
 
-pub(crate) fn length() {
+pub fn length() {
     let bands = place(word());
     text(b"length");
     signed_field(bands);
-    told(answer::length(memory_length(bands)));
+    told(answer(length_parts(memory_length(bands))));
     line();
 }
 
 fn prepare_in(bands: i32, memory: &mut [i32], kept: &[i32]) {
     text(b"prepare");
     signed_field(bands);
-    told(answer::prepared(prepare(bands, memory)));
+    told(answer(prepared_parts(prepare(bands, memory))));
     compared(memory, kept);
     line();
 }
 
 // Prepare on the first so many places.
-pub(crate) fn prepared(memory: &mut [i32], kept: &[i32]) {
+pub fn prepared(memory: &mut [i32], kept: &[i32]) {
     let bands = place(word());
     let n = front(word() as usize, memory);
     prepare_in(bands, &mut memory[..n], kept);
@@ -54,14 +57,14 @@ fn block_in(
     list(input);
     count(output.len());
     line();
-    told(answer::blocked(block(memory, gains, input, output)));
+    told(answer(block_parts(block(memory, gains, input, output))));
     compared(memory, kept);
     compared(output, marked);
     line();
 }
 
 // Block on the first so many places of each list.
-pub(crate) fn blocked(
+pub fn blocked(
     memory: &mut [i32],
     gains: &[i32],
     input: &[i32],

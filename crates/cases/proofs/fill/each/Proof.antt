@@ -3,8 +3,8 @@ use mathlib.Core.Path.{_≡_, refl}
 use Prim.Native.Nat.{_-_}
 use native.Mathlib.Omega.{arith}
 use lib.ListN.{length, length-set}
-use Rattle.readings.proofs.fill.each.Statement.{statement}
-use Rattle.readings.proofs.fill.each.Tie as tie
+use Rattle.cases.proofs.fill.each.Statement.{statement}
+use Rattle.cases.proofs.fill.each.Tie as tie
 
 abbrev Inv-loop : tie.InvT-loop
 Inv-loop s₀ from drawn before rule x₀ i₀ i-end s x i = (length s ≡ length s₀) × (i-end ≡ length s₀)

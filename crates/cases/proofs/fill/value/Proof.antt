@@ -3,8 +3,8 @@ use Prim.Native.Nat.{ℕ, _+_, _*_, _%_, _/_, _≤_, _<_, _^_}
 use native.Mathlib.Nat.{mul-le-mul, mod-lt}
 use native.Mathlib.Omega.{arith}
 use borrow.Author.Needs.{needs}
-use Rattle.readings.proofs.fill.value.Statement.{statement}
-use Rattle.readings.proofs.fill.value.Tie as tie
+use Rattle.cases.proofs.fill.value.Statement.{statement}
+use Rattle.cases.proofs.fill.value.Tie as tie
 
 product : (p step : ℕ) → p < 2 ^ 32 → step < 2 ^ 32 → p * step ≤ 18446744065119617025
 product p step h k = mul-le-mul {n₂ = 4294967295} {m₂ = 4294967295} (omega arith) (omega arith)

@@ -8,8 +8,8 @@ use lib.IntN.{pos, _-ℤ_}
 use mir.Facts.{toZ-pos, toZ-ofZ}
 use mir.Syntax.{w32, w64}
 use mir.Val.{SFits}
-use Rattle.readings.proofs.words.place.Statement.{statement}
-use Rattle.readings.proofs.words.place.Tie as tie
+use Rattle.cases.proofs.words.place.Statement.{statement}
+use Rattle.cases.proofs.words.place.Tie as tie
 
 less : (n : ℕ) → n < 2 ^ 32 → SFits w32 (pos n -ℤ pos 2147483648) × SFits w64 (pos n -ℤ pos 2147483648)
 less n h = by (decLt n 2147483648)

@@ -40,7 +40,7 @@ fn each(s: &mut [i32], from: usize, drawn: bool, before: u64, rule: Rule) {
 }
 
 // Fills the places from one on up to another, by the rule that the next numbers give.
-pub(crate) fn fill(s: &mut [i32]) {
+pub fn fill(s: &mut [i32]) {
     let from = word() as usize;
     let end = front(word() as usize, s);
     let drawn = word() == 1;
