@@ -12,7 +12,7 @@ use Rattle.answers.specs.Answer.{Answer, accepted, refused}
 use Rattle.answers.specs.Unit.{largestData, frontLength}
 use Rattle.wave_writer.specs.Header.{header, writeOf}
 use Rattle.samples.specs.Format.{sizeOf}
-use Rattle.wave.specs.Values.{frameSize, knownRate}
+use Rattle.wave_values.specs.Values.{frameSize, knownRate}
 use Rattle.wave.specs.Walk.{Found, readOf}
 use Rattle.samples.specs.declared.format.Format.{Format}
 use Rattle.wave_writer.specs.declared.writer.Written.the-variants.{Header}

@@ -18,7 +18,7 @@ use Rattle.chunks.proofs.Alike.{Alike, alike, alike-drop, field-alike, name-ali
 use Rattle.chunks.proofs.Walks.{visit-whole}
 use Rattle.chunks.proofs.Deciding.{OwnChunk, Comes, comes-further, decides}
 use Rattle.wave.specs.Names.{riff, wave, fmt, data′}
-use Rattle.wave.specs.Values.{fmtLength}
+use Rattle.wave_values.specs.Values.{fmtLength}
 use Rattle.wave.specs.Walk.{Found, Seen, nothing, values, fmtChunk, dataChunk, chunk, find, findOf, wholeFrames, readOf}
 use Rattle.wave.proofs.Answers.{accepted-means}
 

@@ -16,7 +16,7 @@ use Rattle.chunks.proofs.Headers.{size-there}
 use Rattle.chunks.proofs.Walks.{Visited, cuts, steps, visited}
 use Rattle.chunks.proofs.Deciding.{Comes, landing, kept}
 use Rattle.wave.specs.Names.{riff, wave, data′}
-use Rattle.wave.specs.Values.{frameSize, knownRate}
+use Rattle.wave_values.specs.Values.{frameSize, knownRate}
 use Rattle.wave.specs.Walk.{Found, Seen, nothing, chunk, find, findOf, wholeFrames, readOf}
 use Rattle.wave.proofs.Steps.{Good, Says, goes, lands, chunk-says}
 use Rattle.wave.proofs.Steps as says

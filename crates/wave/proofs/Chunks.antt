@@ -10,10 +10,10 @@ use Rattle.answers.specs.Answer.{Answer, refused}
 use Rattle.fields.specs.Bytes.{lowest, field}
 use Rattle.chunks.specs.Walk.{headerLength, sizeIn, contained, Step, ends, on}
 use Rattle.samples.specs.declared.format.Format.{Format}
-use Rattle.wave.specs.Values.{fmtLength, codingOf, right}
+use Rattle.wave_values.specs.Values.{fmtLength, codingOf, right}
 use Rattle.wave.specs.Walk.{Found, Seen, sound, judged, values, dataChunk}
-use Rattle.wave.specs.declared.values.Coding.{Coding}
-use Rattle.wave.specs.declared.values.Coding.the-variants.{Known, Unknown}
+use Rattle.wave_values.specs.declared.Coding.{Coding}
+use Rattle.wave_values.specs.declared.Coding.the-variants.{Known, Unknown}
 
 -- the six values, as they were read
 pub values-of : (rest : List ℕ) (tag bits count rate byteRate block : ℕ) (coding : Coding) (step : Step Seen (Answer Found)) →

@@ -3,7 +3,7 @@ use mathlib.Core.Path.{_≡_, sym, ap, _∙_}
 use Prim.Native.Nat.{ℕ, _%_}
 use borrow.Author.Tests.{eq-eqb, ne-eqb}
 use Rattle.answers.specs.Answer.{Answer, accepted, refused}
-use Rattle.wave.specs.Values.{frameSize}
+use Rattle.wave_values.specs.Values.{frameSize}
 use Rattle.wave.specs.Walk.{Found, wholeFrames}
 
 -- a refusal of the finder is the reader's

@@ -3,6 +3,5 @@ pub mod Answers
 pub mod Chunks
 pub mod Judging
 pub mod OneAnswer
-pub mod RightValues
 pub mod Steps
 pub mod Unread

@@ -11,10 +11,10 @@ use Rattle.fields.proofs.ByTest.{cond-case}
 use Rattle.chunks.specs.Walk.{headerLength, sizeIn, named, contained, Step, ends, on}
 use Rattle.samples.specs.declared.format.Format.{Format}
 use Rattle.wave.specs.Names.{fmt, data′}
-use Rattle.wave.specs.Values.{fmtLength, channels, frameSize, codingOf, knownRate, right}
+use Rattle.wave_values.specs.Values.{fmtLength, channels, frameSize, codingOf, knownRate, right}
 use Rattle.wave.specs.Walk.{Found, Seen, nothing, sound, first, judged, values, fmtChunk, dataChunk, chunk}
-use Rattle.wave.specs.declared.values.Coding.{Coding}
-use Rattle.wave.specs.declared.values.Coding.the-variants.{Known, Unknown}
+use Rattle.wave_values.specs.declared.Coding.{Coding}
+use Rattle.wave_values.specs.declared.Coding.the-variants.{Known, Unknown}
 
 -- a `fmt ` that was met has a known rate
 abbrev pub Good : Seen → Type 0

@@ -1,4 +1,3 @@
 pub mod Names
 pub mod Private
-pub mod Values
 pub mod Walk

@@ -10,9 +10,9 @@ use Rattle.fields.specs.Bytes.{lowest, field, same}
 use Rattle.chunks.specs.Walk.{headerLength, sizeIn, named, contained, Step, ends, on, walk}
 use Rattle.samples.specs.declared.format.Format.{Format}
 use Rattle.wave.specs.Names.{riff, wave, fmt, data′}
-use Rattle.wave.specs.Values.{fmtLength, frameSize, codingOf, right}
-use Rattle.wave.specs.declared.values.Coding.{Coding}
-use Rattle.wave.specs.declared.values.Coding.the-variants.{Known, Unknown}
+use Rattle.wave_values.specs.Values.{fmtLength, frameSize, codingOf, right}
+use Rattle.wave_values.specs.declared.Coding.{Coding}
+use Rattle.wave_values.specs.declared.Coding.the-variants.{Known, Unknown}
 use Rattle.wave.specs.declared.finder.Finding.{Finding}
 use Rattle.wave.specs.declared.finder.Finding.the-variants as finding
 use Rattle.wave.specs.declared.reader.Reading.{Reading}

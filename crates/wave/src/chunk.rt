@@ -1,10 +1,6 @@
 // One chunk of the reader's walk. `rest` is the front from the chunk on, and `at` the chunk's place in it.
 use crate::finder::Finding;
 use crate::refusal::Refusal;
-use crate::values::Coding;
-use crate::values::FMT_LENGTH;
-use crate::values::coding_of;
-use crate::values::right;
 use chunks::lowest::contained;
 use chunks::lowest::size_in;
 use chunks::place::HEADER_LENGTH;
@@ -12,11 +8,15 @@ use fields::lowest::four;
 use fields::lowest::two;
 use fields::names::named;
 use samples::Format;
+use wave_values::Coding;
+use wave_values::FMT_LENGTH;
+use wave_values::coding_of;
+use wave_values::right;
 ghost use mathlib.Core.Path.{_≡_};
 ghost use Prim.Native.Nat.{_+_, _≤_, _<_, _^_};
 ghost use lib.ListN.{length};
 ghost use Rattle.chunks.specs.Walk.{headerLength};
-ghost use Rattle.wave.specs.Values.{fmtLength};
+ghost use Rattle.wave_values.specs.Values.{fmtLength};
 ghost use Rattle.wave.specs.Walk.{values, fmtChunk, dataChunk, chunk, findAnswer};
 ghost use Rattle.wave.specs.Private.{seenOf, stepOf};
 

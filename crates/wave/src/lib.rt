@@ -1,10 +1,9 @@
-// WAVE headers: their right values, and the reader, in two steps.
+// The reader of WAVE headers, in two steps: where the samples are, and whether their length is whole frames.
 // No public call has a `requires`: what it cannot take it refuses, and then it changes nothing that is lent.
 mod chunk;
 mod finder;
 mod reader;
 mod refusal;
-pub mod values;
 
 pub use finder::Finding;
 pub use finder::find;

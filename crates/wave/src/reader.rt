@@ -2,8 +2,8 @@
 use crate::finder::Finding;
 use crate::finder::find;
 use crate::refusal::Refusal;
-use crate::values::frame_size;
 use samples::Format;
+use wave_values::frame_size;
 ghost use mathlib.Core.Path.{_≡_};
 ghost use Rattle.wave.specs.Walk.{readOf, readAnswer};
 

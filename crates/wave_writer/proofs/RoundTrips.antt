@@ -17,14 +17,14 @@ use Rattle.fields.specs.Bytes.{lowest, number, little, ordered, numberIn, field
 use Rattle.fields.proofs.Rows.{number-row}
 use Rattle.chunks.specs.Walk.{headerLength, chunkHeader, next, ends, on}
 use Rattle.chunks.proofs.Walks.{walk-ends, walk-on}
-use Rattle.wave.specs.Values.{fmtLength, channels, frameSize, codingOf, knownRate, right}
+use Rattle.wave_values.specs.Values.{fmtLength, channels, frameSize, codingOf, knownRate, right}
 use Rattle.wave_writer.specs.Header.{written, headerBytes, fmtContents, header, writeChecks, writeOf, writeAnswer}
 use Rattle.wave.specs.Walk.{Found, nothing, sound, first, judged, values, fmtChunk, dataChunk, chunk, find, findOf, wholeFrames, readOf}
-use Rattle.wave.specs.declared.values.Coding.the-variants.{Known}
+use Rattle.wave_values.specs.declared.Coding.the-variants.{Known}
 use Rattle.wave_writer.specs.declared.writer.Written.{Written}
 use Rattle.wave_writer.specs.declared.writer.Written.the-variants as call
 use Rattle.wave.proofs.Chunks.{values-of}
-use Rattle.wave.proofs.RightValues.{rate-small}
+use Rattle.wave_values.proofs.RightValues.{rate-small}
 use Rattle.wave_writer.proofs.Writing.{length-header}
 
 -- ---- the writer

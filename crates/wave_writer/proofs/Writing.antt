@@ -15,7 +15,7 @@ use Rattle.chunks.specs.Walk.{chunkHeader}
 use Rattle.chunks.proofs.Headers as chunks
 use Rattle.samples.specs.Format.{bitsOf}
 use Rattle.wave.specs.Names.{riff, wave, fmt, data′}
-use Rattle.wave.specs.Values.{fmtLength, channels, frameSize, knownRate}
+use Rattle.wave_values.specs.Values.{fmtLength, channels, frameSize, knownRate}
 use Rattle.wave_writer.specs.Header.{written, headerBytes, riffSize, fmtContents, header, writeChecks, writeOf}
 use Rattle.wave_writer.specs.declared.writer.Written.the-variants.{Header}
 

@@ -12,7 +12,7 @@ use Rattle.samples.specs.Format.{bitsOf}
 use Rattle.samples.specs.declared.format.Format.{Format}
 use Rattle.samples.specs.declared.format.Format.the-variants.{Bits24}
 use Rattle.wave.specs.Names.{riff, wave, fmt, data′}
-use Rattle.wave.specs.Values.{fmtLength, channels, frameSize, knownRate}
+use Rattle.wave_values.specs.Values.{fmtLength, channels, frameSize, knownRate}
 use Rattle.wave_writer.specs.declared.writer.Written.{Written}
 use Rattle.wave_writer.specs.declared.writer.Written.the-variants.{Header, WrongBuffer, WrongRate, WrongLength}
 

@@ -4,7 +4,7 @@ use borrow.Author.Needs.{needs}
 use Rattle.answers.specs.Answer.{Answer, refused}
 use Rattle.chunks.specs.Walk.{Step, ends}
 use Rattle.wave.specs.Walk.{Found, Seen, judged, values}
-use Rattle.wave.specs.declared.values.Coding.the-variants.{Known, Unknown}
+use Rattle.wave_values.specs.declared.Coding.the-variants.{Known, Unknown}
 use Rattle.wave.proofs.Chunks.{values-of, judged-right, judged-wrong, judged-unknown}
 use Rattle.wave.proofs.chunk.format_values.Statement.{statement}
 use Rattle.wave.proofs.chunk.format_values.Tie as tie

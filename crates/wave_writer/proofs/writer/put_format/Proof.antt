@@ -1,6 +1,6 @@
 -- `writer::put_format` meets its contract: six numbers, one behind the other. Assumes nothing.
 use borrow.Author.Needs.{needs}
-use Rattle.wave.proofs.RightValues.{product-fits}
+use Rattle.wave_values.proofs.RightValues.{product-fits}
 use Rattle.wave_writer.proofs.Writing.{fmt-row}
 use Rattle.wave_writer.proofs.writer.put_format.Statement.{statement}
 use Rattle.wave_writer.proofs.writer.put_format.Tie as tie

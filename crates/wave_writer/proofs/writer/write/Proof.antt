@@ -3,7 +3,7 @@ use borrow.Author.Needs.{needs}
 use Rattle.answers.proofs.Branches.{judging}
 use Rattle.fields.proofs.ByTest.{dividing}
 use Rattle.wave_writer.specs.Header.{writeOf}
-use Rattle.wave.proofs.RightValues.{rate-small}
+use Rattle.wave_values.proofs.RightValues.{rate-small}
 use Rattle.wave_writer.proofs.writer.write.Statement.{statement}
 use Rattle.wave_writer.proofs.writer.write.Tie as tie
 

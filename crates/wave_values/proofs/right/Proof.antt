@@ -1,10 +1,10 @@
--- `values::right` meets its contract: the tests of `right` in turn. Assumes nothing.
+-- `right` meets its contract: the tests of `right` in turn. Assumes nothing.
 use borrow.Author.Needs.{needs}
 use Rattle.fields.proofs.ByTest.{anding}
-use Rattle.wave.specs.Values.{right}
-use Rattle.wave.proofs.RightValues.{rate-small, product-fits, by-frame}
-use Rattle.wave.proofs.values.right.Statement.{statement}
-use Rattle.wave.proofs.values.right.Tie as tie
+use Rattle.wave_values.specs.Values.{right}
+use Rattle.wave_values.proofs.RightValues.{rate-small, product-fits, by-frame}
+use Rattle.wave_values.proofs.right.Statement.{statement}
+use Rattle.wave_values.proofs.right.Tie as tie
 
 pub right-spec : {M : Type 1} → statement M
 unfolding right

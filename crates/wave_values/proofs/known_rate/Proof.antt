@@ -1,8 +1,8 @@
--- `values::known_rate` meets its contract: it asks the two tests of `knownRate` in turn. Assumes nothing.
+-- `known_rate` meets its contract: it asks the two tests of `knownRate` in turn. Assumes nothing.
 use borrow.Author.Tests.{eq-eqb, ne-eqb}
-use Rattle.wave.specs.Values.{knownRate}
-use Rattle.wave.proofs.values.known_rate.Statement.{statement}
-use Rattle.wave.proofs.values.known_rate.Tie as tie
+use Rattle.wave_values.specs.Values.{knownRate}
+use Rattle.wave_values.proofs.known_rate.Statement.{statement}
+use Rattle.wave_values.proofs.known_rate.Tie as tie
 
 returns : tie.Need-returns
 unfolding knownRate

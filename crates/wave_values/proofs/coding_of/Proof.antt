@@ -1,8 +1,8 @@
--- `values::coding_of` meets its contract: the tests of `codingOf` in turn. Assumes nothing.
+-- `coding_of` meets its contract: the tests of `codingOf` in turn. Assumes nothing.
 use Rattle.fields.proofs.ByTest.{picking}
-use Rattle.wave.specs.Values.{codingOf}
-use Rattle.wave.proofs.values.coding_of.Statement.{statement}
-use Rattle.wave.proofs.values.coding_of.Tie as tie
+use Rattle.wave_values.specs.Values.{codingOf}
+use Rattle.wave_values.proofs.coding_of.Statement.{statement}
+use Rattle.wave_values.proofs.coding_of.Tie as tie
 
 pub coding-of-spec : {M : Type 1} → statement M
 unfolding codingOf

@@ -1,9 +1,9 @@
-// The right values of a `fmt ` chunk, in one place.
+// The right values of a `fmt ` chunk, in one place. No call has a `requires`.
 use samples::Format;
 use samples::bytes_each;
 ghost use mathlib.Core.Path.{_≡_};
 ghost use Prim.Native.Nat.{_<_};
-ghost use Rattle.wave.specs.Values.{frameSize, codingOf, knownRate, right};
+ghost use Rattle.wave_values.specs.Values.{frameSize, codingOf, knownRate, right};
 
 // The length of `fmt `.
 pub const FMT_LENGTH: u32 = 16;

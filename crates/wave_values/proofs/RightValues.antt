@@ -7,7 +7,7 @@ use native.Mathlib.Nat.{mul-le-mul}
 use lib.Dec.{eqb}
 use borrow.Author.Tests.{eqb-true}
 use Rattle.fields.proofs.ByTest.{by-test}
-use Rattle.wave.specs.Values.{knownRate}
+use Rattle.wave_values.specs.Values.{knownRate}
 
 -- neither rate is above 48,000
 pub rate-small : (rate : ℕ) → knownRate rate ≡ true → rate ≤ 48000

@@ -5,8 +5,8 @@ use lib.Dec.{eqb}
 use Rattle.samples.specs.Format.{sizeOf}
 use Rattle.samples.specs.declared.format.Format.{Format}
 use Rattle.samples.specs.declared.format.Format.the-variants.{Bits16, Bits24}
-use Rattle.wave.specs.declared.values.Coding.{Coding}
-use Rattle.wave.specs.declared.values.Coding.the-variants.{Known, Unknown}
+use Rattle.wave_values.specs.declared.Coding.{Coding}
+use Rattle.wave_values.specs.declared.Coding.the-variants.{Known, Unknown}
 
 -- rule 8.6: the length of `fmt `
 abbrev pub fmtLength : ℕ
