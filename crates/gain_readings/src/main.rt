@@ -1,14 +1,18 @@
 // What the gain command answers to the floats below, to the floats next to them, and to the negatives of all of these.
+use encoding::code::SignedParts;
 use gain::Command;
 use gain::Gained;
+use parts::gains::gain_parts;
 use printing::Answer;
 use printing::line;
 use printing::text;
 use printing::told;
 ghost use mathlib.Core.Path.{_≡_};
-ghost use Rattle.gain.specs.Answer.{answerOf};
+ghost use mathlib.Core.Bool.{cond};
+ghost use lib.Dec.{eqb};
+ghost use lib.IntN.{natAbs};
+ghost use Rattle.answers.specs.Answer.{accepted, refused};
 ghost use Rattle.printing.specs.Told.{numbered};
-ghost use Rattle.gain_readings.specs.Size.{sized};
 
 // 0, 0.5, 1, 1.5, .. 12, as bit patterns: the half decibels.
 const HALVES: [u32; 25] = [
@@ -81,18 +85,17 @@ fn float(bits: u32) -> f32 {
 }
 
 // A gain without its sign, or the number of the refusal.
-fn answered(answer: Gained) -> Answer
-    ensures { λ r. ⌜ numbered r ≡ sized (answerOf answer) ⌝ }
+fn answered(a: SignedParts) -> Answer
+    ensures { λ r. ⌜ numbered r ≡ cond (eqb (a .0) 0) (accepted (natAbs (a .2))) (refused (a .0) 0) ⌝ }
 {
-    match answer {
-        Gained::Gain(gain) => Answer::Accepted(printing::magnitude(gain)),
-        Gained::NotHalfDecibels => Answer::Refused(11),
-        Gained::NotFactor => Answer::Refused(12),
+    if a.0 == 0 {
+        return Answer::Accepted(printing::magnitude(a.2));
     }
+    Answer::Refused(a.0 as u64)
 }
 
 fn write(answer: Gained) {
-    told(answered(answer));
+    told(answered(gain_parts(answer)));
     line();
 }
 
