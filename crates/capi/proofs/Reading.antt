@@ -10,7 +10,8 @@ use Rattle.answers.specs.Unit.{frontLength}
 use Rattle.samples.specs.Format.{bitsOf}
 use Rattle.wave.specs.Walk.{Found, readOf}
 use Rattle.wave.proofs.Answers.{Told, accepts, refuses, read-told, accepted-start}
-use Rattle.parts.specs.Found.{ofFound, foundAfter}
+use Rattle.parts.specs.Found.{ofFound}
+use Rattle.capi.specs.Found.{foundAfter}
 use Rattle.encoding.specs.Parts.{Counted}
 use Rattle.capi.specs.Private.{StartFits}
 

@@ -1,2 +1,3 @@
 -- What a C caller is returned, and what each call leaves in the lent places.
+pub mod Found
 pub mod Private

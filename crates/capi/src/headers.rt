@@ -8,7 +8,8 @@ ghost use Rattle.wave_writer.specs.Header.{writeOf, writeAnswer};
 ghost use Rattle.wave.specs.Walk.{readOf, readAnswer};
 ghost use Rattle.encoding.specs.Answers.{ofCount, Returned};
 ghost use Rattle.encoding.specs.Encode.{encode};
-ghost use Rattle.parts.specs.Found.{ofFound, foundAfter};
+ghost use Rattle.parts.specs.Found.{ofFound};
+ghost use Rattle.capi.specs.Found.{foundAfter};
 ghost use Rattle.capi.specs.Private.{StartFits};
 
 // What was found goes to the four places; a refusal stores nothing.

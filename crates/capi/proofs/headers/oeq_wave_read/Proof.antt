@@ -4,7 +4,8 @@ use borrow.Author.Needs.{needs}
 use denote.Ref.{now}
 use Rattle.answers.specs.Answer.{Answer}
 use Rattle.wave.specs.Walk.{Found}
-use Rattle.parts.specs.Found.{ofFound, foundAfter}
+use Rattle.parts.specs.Found.{ofFound}
+use Rattle.capi.specs.Found.{foundAfter}
 use Rattle.capi.specs.Private.{StartFits}
 use Rattle.encoding.proofs.Encoding.{count-fits, count-is}
 use Rattle.capi.proofs.Reading.{read-counted, start-fits}

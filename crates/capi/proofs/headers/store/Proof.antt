@@ -4,7 +4,7 @@ use borrow.Author.Needs.{needs}
 use denote.Ref.{now}
 use Rattle.wave.specs.Walk.{readAnswer}
 use Rattle.wave.specs.declared.reader.Reading.{Reading}
-use Rattle.parts.specs.Found.{foundAfter}
+use Rattle.capi.specs.Found.{foundAfter}
 use Rattle.capi.specs.Private.{StartFits}
 use Rattle.capi.proofs.headers.store.Statement.{statement}
 use Rattle.capi.proofs.headers.store.Tie as tie
