@@ -1,4 +1,4 @@
--- Bookkeeping of proofs and of private functions: a reader of the promises needs none of it.
+-- Bookkeeping of proofs and of helpers: a reader of the promises needs none of it.
 use mathlib.Core.Path.{_≡_}
 use mathlib.Core.Bool.{false, cond}
 use Prim.Native.Nat.{ℕ, _+_, _*_, _<_, _^_}

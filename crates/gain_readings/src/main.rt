@@ -8,11 +8,8 @@ use printing::line;
 use printing::text;
 use printing::told;
 ghost use mathlib.Core.Path.{_≡_};
-ghost use mathlib.Core.Bool.{cond};
-ghost use lib.Dec.{eqb};
 ghost use lib.IntN.{natAbs};
-ghost use Rattle.answers.specs.Answer.{accepted, refused};
-ghost use Rattle.printing.specs.Told.{numbered};
+ghost use Rattle.printing.specs.Told.{numbered, byNumber};
 
 // 0, 0.5, 1, 1.5, .. 12, as bit patterns: the half decibels.
 const HALVES: [u32; 25] = [
@@ -86,7 +83,7 @@ fn float(bits: u32) -> f32 {
 
 // A gain without its sign, or the number of the refusal.
 fn answered(a: SignedParts) -> Answer
-    ensures { λ r. ⌜ numbered r ≡ cond (eqb (a .0) 0) (accepted (natAbs (a .2))) (refused (a .0) 0) ⌝ }
+    ensures { λ r. ⌜ numbered r ≡ byNumber (a .0) (natAbs (a .2)) ⌝ }
 {
     if a.0 == 0 {
         return Answer::Accepted(printing::magnitude(a.2));

@@ -2,13 +2,10 @@
 use encoding::code::CountParts;
 use printing::Answer;
 ghost use mathlib.Core.Path.{_≡_};
-ghost use mathlib.Core.Bool.{cond};
-ghost use lib.Dec.{eqb};
-ghost use Rattle.answers.specs.Answer.{accepted, refused};
-ghost use Rattle.printing.specs.Told.{numbered};
+ghost use Rattle.printing.specs.Told.{numbered, byNumber};
 
 pub(crate) fn answer(a: CountParts) -> Answer
-    ensures { λ r. ⌜ numbered r ≡ cond (eqb (a .0) 0) (accepted (a .2)) (refused (a .0) 0) ⌝ }
+    ensures { λ r. ⌜ numbered r ≡ byNumber (a .0) (a .2) ⌝ }
 {
     if a.0 == 0 {
         return Answer::Accepted(a.2 as u64);
