@@ -78,6 +78,12 @@ unfolding firstOutside
 cons-all lo hi x xs e h =
     rw e (le-leb (suc (length xs)) (suc (firstOutside lo hi xs)) (omega (arith, leb-true (length xs) (firstOutside lo hi xs) h)))
 
+-- numbers that are each within are all within
+pub at-all : (lo hi : ℤ) (s : List ℤ) → ((i : ℕ) → i < length s → within lo hi (getD s i (pos 0)) ≡ true) → allWithin lo hi s ≡ true
+unfolding firstOutside
+at-all lo hi [] e = refl
+at-all lo hi (x ∷ xs) e = cons-all lo hi x xs (e 0 (omega arith)) (at-all lo hi xs (λ i h. e (suc i) (omega arith)))
+
 -- ---- the loop that looks for the first, over the numbers as the machine hands them on
 
 abbrev raw : ℤ → ℤ

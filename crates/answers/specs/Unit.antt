@@ -10,6 +10,14 @@ fewestBands = pos 2
 abbrev pub mostBands : ℤ
 mostBands = pos 10
 
+-- rule 1.10: the least number of channels
+abbrev pub fewestChannels : ℤ
+fewestChannels = pos 1
+
+-- rule 1.10: the largest number of channels
+abbrev pub mostChannels : ℤ
+mostChannels = pos 2
+
 -- rule 1.1: the ends of the sample range, 24 bits
 abbrev pub leastSample : ℤ
 leastSample = negsuc 8388607
@@ -38,7 +46,7 @@ largestGain = 16384
 abbrev pub unity : ℕ
 unity = 4096
 
--- rule 1.4: the most samples of a block
+-- rule 1.4: the most frames of a block
 abbrev pub blockLimit : ℕ
 blockLimit = 4096
 

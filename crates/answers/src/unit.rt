@@ -3,6 +3,10 @@ pub const FEWEST_BANDS: i32 = 2;
 
 pub const MOST_BANDS: i32 = 10;
 
+pub const FEWEST_CHANNELS: i32 = 1;
+
+pub const MOST_CHANNELS: i32 = 2;
+
 pub const LEAST_SAMPLE: i32 = -8388608;
 
 pub const MOST_SAMPLE: i32 = 8388607;
@@ -10,7 +14,7 @@ pub const MOST_SAMPLE: i32 = 8388607;
 pub const LARGEST_GAIN: i32 = 16384;
 // The gain that changes nothing.
 pub const UNITY: i64 = 4096;
-// The most samples of a block.
+// The most frames of a block.
 pub const BLOCK_LIMIT: usize = 4096;
 // The most bytes that a header's reader looks at.
 pub const FRONT_LENGTH: usize = 4096;

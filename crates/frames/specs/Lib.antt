@@ -1,0 +1,3 @@
+-- Blocks of frames.
+pub mod Frames
+pub mod Helpers
