@@ -1,20 +1,18 @@
--- A block's samples, row after row. Assumes nothing.
+-- One side's samples, row after row. Assumes nothing.
 use mathlib.Core.Path.{_≡_, refl, sym, ap, ap₂, _∙_}
 use mathlib.Core.Bool.{Bool, true, false, cond}
 use mathlib.Core.List.{List, [], _∷_, _++_, append-assoc, append-nil}
 use Prim.Native.Nat.{ℕ, suc, _+_, _-_, _*_, _^_, _≤_, _<_}
+use native.Mathlib.Nat.{mul-zero, mul-add, mul-le-mul-left, sub-zero}
 use native.Mathlib.Omega.{arith}
 use borrow.Author.Tests.{lt-ltb, le-ltb, ltb-true}
 use borrow.Rule.Slice.PartMut.{putMid, same-len-mid}
 use lib.Dec.{ltb}
-use lib.ListN.{length, getD, take, drop, set, length-set, length-drop, length-append, take-append-drop, drop-of-length-le}
-use lib.Seq.{slice, slice-cons, slice-empty, take-suc-set, append-snoc, drop-drop, length-take-le, take-all, take-at}
+use lib.ListN.{length, take, drop, length-drop}
+use lib.Seq.{getD-take, drop-drop, length-take-le}
 use lib.IntN.{ℤ, pos}
-use mir.Syntax.{w32}
-use mir.Val.{SFits}
-use mir.Facts.{toZ-ofZ}
-use native.Mathlib.Numerals.{add-one}
-use Rattle.whole.proofs.Rounded.{raw}
+use Rattle.frames.specs.Frames.{side}
+use Rattle.frames.proofs.Laws.{side-length, side-add, side-front, put-side, put-alike}
 use Rattle.tree.specs.Prototype.{published}
 use Rattle.lines.specs.Cascade.{Ran, run}
 use Rattle.lines.specs.Rows.{rowPlaces, wrapped, rowed, columns}
@@ -24,7 +22,7 @@ use Rattle.lines.proofs.Interchange.{rows-count, rows-even}
 use Rattle.lines.proofs.Turns.{turn}
 use Rattle.weighing.specs.Weighing.{outOf, bandSum, outputs}
 use Rattle.weighing.specs.Helpers.{Differ, RowWeighed}
-use Rattle.block_rows.specs.Helpers.{RowAnswered, RunDone}
+use Rattle.block_rows.specs.Helpers.{RowAnswered, SideAnswered, SideDone}
 
 -- ---- the position
 
@@ -48,54 +46,23 @@ unfolding outputs
 outputs-append g [] ys = refl
 outputs-append g (a ∷ xs) ys = ap (λ (l : List ℤ). outOf (bandSum g a) ∷ l) (outputs-append g xs ys)
 
--- a part put in its place ends where the part does
-take-put-end : (i n : ℕ) (xs ys : List ℤ) → i ≤ length xs → length ys ≡ n → take (i + n) (putMid i n xs ys) ≡ take i xs ++ ys
-take-put-end i n xs ys h e =
-    ap (take (i + n)) (sym (append-assoc (take i xs) ys (drop n (drop i xs)))) ∙
-    take-at (take i xs ++ ys) (drop n (drop i xs)) (i + n) (length-append (take i xs) ys ∙ ap₂ _+_ (length-take-le i xs h) e)
-
 -- ---- a row
 
--- what the matrix shows is what is weighed: the row was put in `before`
-pub row-answered : (bands size at : ℕ) (lines xs before : List ℤ) {ds ys matrix outs : List ℤ} → 1 ≤ bands → length outs ≡ length xs → take (length xs) before ≡ xs →
-    RowsDone (rowed published size (bands - 1) 1 at lines (take (length xs) before)) (length xs) ys matrix → RowWeighed bands matrix ds outs →
+-- what the matrix shows is what is weighed
+pub row-answered : (bands size at : ℕ) (lines xs before : List ℤ) {ds ys matrix outs : List ℤ} (n : ℕ) → 1 ≤ bands → length outs ≡ n → length xs ≡ n → take n before ≡ xs →
+    RowsDone (rowed published size (bands - 1) 1 at lines (take n before)) n ys matrix → RowWeighed bands matrix ds outs →
     RowAnswered bands (rowed published size (bands - 1) 1 at lines xs) ds ys outs
-row-answered bands size at lines xs before {ds} {ys} {matrix} {outs} some e b d' w =
-    let d : RowsDone (rowed published size (bands - 1) 1 at lines xs) (length xs) ys matrix = rw b at d' in
+row-answered bands size at lines xs before {ds} {ys} {matrix} {outs} n some e long taken d' w =
+    let d : RowsDone (rowed published size (bands - 1) 1 at lines xs) n ys matrix = rw taken at d' in
     let R = rowed published size (bands - 1) 1 at lines xs in
     let count : length (R .rows) ≡ bands = rows-count published size (bands - 1) 1 at lines xs ∙ suc-less bands some in
     record {
       places-are = d .places-are;
-      under = λ g q top. w .under g (R .rows) q top count (rw e (rows-even published size (bands - 1) 1 at lines xs)) (rw e (d .shown));
+      under = λ g q top. w .under g (R .rows) q top count (rw (e ∙ sym long) (rows-even published size (bands - 1) 1 at lines xs)) (rw e (d .shown));
     }
   where
     suc-less : (n : ℕ) → 1 ≤ n → suc (n - 1) ≡ n
     suc-less n h = omega arith
-
--- ---- the input put in the matrix
-
-pub record Putting (x row₀ row : List ℤ) (i : ℕ) : Type 0 where
-  pub reached : i ≤ length x
-  pub same-row : length row ≡ length row₀
-  pub rest : take i row ++ slice i (length x) x ≡ x
-
-pub putting-starts : (x row : List ℤ) → Putting x row row 0
-putting-starts x row = record { reached = omega arith; same-row = refl; rest = take-all (length x) x (omega arith) }
-
-module _ (x row₀ row : List ℤ) (i : ℕ) (p : Putting x row₀ row i) where
-  pub putting-on : i < length x → length x ≤ length row₀ → SFits w32 (getD x i (pos 0)) → Putting x row₀ (set row i (raw w32 (getD x i (pos 0)))) (i + 1)
-  putting-on h hr fx =
-      let v = getD x i (pos 0) in
-      record {
-        reached = omega arith;
-        same-row = length-set row i (raw w32 v) ∙ p .same-row;
-        rest = rw (add-one i, toZ-ofZ fx, take-suc-set row i v (omega (arith, p .same-row)), append-snoc) (rw (slice-cons i (length x) x (pos 0) h (omega arith)) at (p .rest));
-      }
-
-  pub putting-ends : length x ≤ i → take (length x) row ≡ x
-  putting-ends h =
-      let end : i ≡ length x = omega (arith, p .reached) in
-      rw (end, slice-empty (length x) x, append-nil) at (p .rest)
 
 -- ---- the loop
 
@@ -121,83 +88,132 @@ went-on g done outs cols t w o e b rest =
         append-assoc done outs (outputs (λ _. g) (t .aligned)) ∙
         ap (λ (l : List ℤ). done ++ l) (ap (λ (l : List ℤ). l ++ outputs (λ _. g) (t .aligned)) o ∙ sym (outputs-append g cols (t .aligned)))
 
--- up to sample i the outputs are written; what the rest gives from here is what the whole run gives
-pub record Going (bands size from : ℕ) (g : ℕ → ℤ) (lines₀ input rows₀ output₀ lines rows output : List ℤ) (at i : ℕ) : Type 0 where
+-- up to frame i the outputs are written; what the rest gives from here is what the whole run gives
+pub record Going (bands size from c s frames : ℕ) (g : ℕ → ℤ) (lines₀ input rows₀ output₀ lines rows output : List ℤ) (at i : ℕ) : Type 0 where
   pub inside : at < size
-  pub reached : i ≤ length input
+  pub reached : i ≤ frames
   pub same-lines : length lines ≡ length lines₀
   pub same-output : length output ≡ length output₀
   pub same-rows : length rows ≡ length rows₀
-  pub rest : went g (take i output) (run published size (bands - 1) at lines (drop i input)) ≡ went g [] (run published size (bands - 1) from lines₀ input)
+  pub rest : went g (side c s i output) (run published size (bands - 1) at lines (side c s (frames - i) (drop (c * i) input))) ≡
+      went g [] (run published size (bands - 1) from lines₀ (side c s frames input))
+  pub others : (t : ℕ) → t < c → (t ≡ s → ⊥) → side c t frames output ≡ side c t frames output₀
 
-pub going-starts : (bands size from : ℕ) (g : ℕ → ℤ) (lines input rows output : List ℤ) → from < size → Going bands size from g lines input rows output lines rows output from 0
-going-starts bands size from g lines input rows output h =
-    record { inside = h; reached = omega arith; same-lines = refl; same-output = refl; same-rows = refl; rest = refl }
+pub going-starts : (bands size from c s frames : ℕ) (g : ℕ → ℤ) (lines input rows output : List ℤ) → from < size →
+    Going bands size from c s frames g lines input rows output lines rows output from 0
+unfolding side
+going-starts bands size from c s frames g lines input rows output h =
+    record {
+      inside = h;
+      reached = omega arith;
+      same-lines = refl;
+      same-output = refl;
+      same-rows = refl;
+      others = λ t l n. refl;
+      rest = rw (mul-zero c, sub-zero frames) refl;
+    }
 
-module _ {bands size from : ℕ} {g : ℕ → ℤ} {lines₀ input rows₀ output₀ lines rows output : List ℤ} {at i : ℕ}
-    (going : Going bands size from g lines₀ input rows₀ output₀ lines rows output at i) (region : Region published bands size 1 lines₀)
-    (alike : length output₀ ≡ length input) (room : rowPlaces * bands ≤ length rows₀) where
-  -- n samples from i on
-  abbrev part : ℕ → List ℤ
-  part n = take (i + n - i) (drop i input)
+module _ {bands size from c s frames : ℕ} {g : ℕ → ℤ} {lines₀ input rows₀ output₀ lines rows output : List ℤ} {at i : ℕ}
+    (going : Going bands size from c s frames g lines₀ input rows₀ output₀ lines rows output at i) (region : Region published bands size 1 lines₀)
+    (below : s < c) (whole : length input ≡ c * frames) (alike : length output₀ ≡ length input) (room : rowPlaces * bands ≤ length rows₀) where
+  -- the numbers of n frames from i on
+  less : (n : ℕ) → c * (i + n) - c * i ≡ c * n
+  less n = omega (arith, mul-add c i n)
 
-  less : (n : ℕ) → i + n - i ≡ n
-  less n = omega arith
+  fewer : (n : ℕ) → n ≤ frames - i → c * (i + n) ≤ c * frames
+  fewer n h = mul-le-mul-left {m = i + n} {n = frames} c (omega (arith, going .reached))
 
-  pub part-length : (n : ℕ) → n ≤ length input - i → length (part n) ≡ n
-  part-length n h = rw (less n) (length-take-le n (drop i input) (simp length-drop h))
+  -- .. stand in the block, the start before the end
+  pub ends-inside : (n : ℕ) → n ≤ frames - i → (c * i ≤ c * (i + n)) × (c * (i + n) ≤ length input)
+  ends-inside n h = (omega (arith, mul-add c i n), omega (arith, whole, fewer n h))
 
-  pub out-length : (n : ℕ) → n ≤ length input - i → length (take (i + n - i) (drop i output)) ≡ length (part n)
-  out-length n h =
-      rw (part-length n h, less n) (length-take-le n (drop i output) (rw (length-drop i output, going .same-output, alike) h))
+  part-length : (n : ℕ) (xs : List ℤ) → length xs ≡ c * frames → n ≤ frames - i → length (take (c * (i + n) - c * i) (drop (c * i) xs)) ≡ c * n
+  part-length n xs e h = rw (less n) (length-take-le (c * n) (drop (c * i) xs) (rw (length-drop (c * i) xs, e) (omega (arith, fewer n h, mul-add c i n))))
 
-  pub row-region : (n : ℕ) → n ≤ rowPlaces → n ≤ length input - i → at + n ≤ size → RowRegion published bands size at 1 (length (part n)) lines rows
-  row-region n short left before =
+  output-whole : length output ≡ c * frames
+  output-whole = going .same-output ∙ alike ∙ whole
+
+  pub in-length : (n : ℕ) → n ≤ frames - i → length (take (c * (i + n) - c * i) (drop (c * i) input)) ≡ c * n
+  in-length n = part-length n input whole
+
+  pub out-length : (n : ℕ) → n ≤ frames - i → length (take (c * (i + n) - c * i) (drop (c * i) output)) ≡ c * n
+  out-length n = part-length n output output-whole
+
+  pub row-region : (n : ℕ) → n ≤ rowPlaces → at + n ≤ size → RowRegion published bands size at 1 n lines rows
+  row-region n short before =
       record {
         region = record { some = region .some; few = region .few; stretch = region .stretch; sized = region .sized; whole = going .same-lines ∙ region .whole; small = region .small };
-        short = rw (part-length n left) short;
-        before-end = rw (part-length n left) before;
+        short = short;
+        before-end = before;
         room = rw (going .same-rows) room;
       }
 
-  pub going-on : (n : ℕ) (ds ys rows' outs : List ℤ) → n ≤ length input - i → at + n ≤ size →
-      length ys ≡ length lines → length rows' ≡ length rows → length outs ≡ length (take (i + n - i) (drop i output)) →
-      Differ bands g ds → g (suc bands) ≡ pos 0 → RowAnswered bands (rowed published size (bands - 1) 1 at lines (part n)) ds ys outs →
-      Going bands size from g lines₀ input rows₀ output₀ ys rows' (putMid i (i + n - i) output outs) (wrapped size (at + n)) (i + n)
-  going-on n ds ys rows' outs left before ly lr lo q top d =
+  -- one side of those frames, and of the frames behind them
+  side-split : (t n : ℕ) (xs : List ℤ) → t < c → length xs ≡ c * frames → n ≤ frames - i → side c t (frames - i) (drop (c * i) xs) ≡
+      side c t n (take (c * (i + n) - c * i) (drop (c * i) xs)) ++ side c t (frames - (i + n)) (drop (c * (i + n)) xs)
+  side-split t n xs l e h =
+      let parts : frames - i ≡ n + (frames - (i + n)) = omega (arith, going .reached) in
+      ap (λ (k : ℕ). side c t k (drop (c * i) xs)) parts ∙ side-add c t n (frames - (i + n)) (drop (c * i) xs) ∙
+      ap₂ _++_
+      (side-front c t n (drop (c * i) xs) (take (c * n) (drop (c * i) xs)) l (λ k q. sym (getD-take (c * n) (drop (c * i) xs) k (pos 0) q)) ∙
+      ap (λ (k : ℕ). side c t n (take k (drop (c * i) xs))) (sym (less n)))
+      (ap (side c t (frames - (i + n))) (drop-drop (c * n) (c * i) xs ∙ ap (λ (k : ℕ). drop k xs) (sym (mul-add c i n))))
+
+  pub going-on : (n : ℕ) (ds ys rows' outs : List ℤ) → n ≤ frames - i → at + n ≤ size →
+      length ys ≡ length lines → length rows' ≡ length rows →
+      length outs ≡ length (take (c * (i + n) - c * i) (drop (c * i) output)) →
+      Differ bands g ds → g (suc bands) ≡ pos 0 →
+      SideAnswered bands c s n (rowed published size (bands - 1) 1 at lines (side c s n (take (c * (i + n) - c * i) (drop (c * i) input)))) ds ys
+      (take (c * (i + n) - c * i) (drop (c * i) output)) outs →
+      Going bands size from c s frames g lines₀ input rows₀ output₀ ys rows' (putMid (c * i) (c * (i + n) - c * i) output outs) (wrapped size (at + n)) (i + n)
+  going-on n ds ys rows' outs left before ly lr lo q top a =
       let k = bands - 1 in
-      let xs = part n in
-      let later = drop (i + n) input in
+      let d = a .answered in
+      let xs = side c s n (take (c * (i + n) - c * i) (drop (c * i) input)) in
+      let later = side c s (frames - (i + n)) (drop (c * (i + n)) input) in
       let R = rowed published size k 1 at lines xs in
       let T = run published size k (wrapped size (at + n)) (R .places) later in
-      let split : drop i input ≡ xs ++ later = rw (less n, ← (drop-drop n i input)) (sym (take-append-drop n (drop i input))) in
+      let long : length xs ≡ n = side-length c s n (take (c * (i + n) - c * i) (drop (c * i) input)) in
       let reach : 9 * (1 * 2 ^ (bands - 1)) ≤ size = omega (arith, region .sized) in
-      let by-row = turn published size published-centred k at lines xs later reach (going .same-lines ∙ region .whole) (going .inside) (rw (part-length n left) before) in
-      let here : run published size k at lines (drop i input) ≡ record { places = T .places; position = T .position; aligned = columns (R .rows) ++ T .aligned } =
-      ap (run published size k at lines) split ∙ rw (part-length n left) at by-row in
-      let many : length outs ≡ n = lo ∙ out-length n left ∙ part-length n left in
-      let put : take (i + n) (putMid i (i + n - i) output outs) ≡ take i output ++ outs =
-      ap (λ (m : ℕ). take (i + n) (putMid i m output outs)) (less n) ∙ take-put-end i n output outs (omega (arith, going .same-output, going .reached)) many in
+      let by-row = turn published size published-centred k at lines xs later reach (going .same-lines ∙ region .whole) (going .inside) (rw long before) in
+      let here : run published size k at lines (side c s (frames - i) (drop (c * i) input)) ≡ record { places = T .places; position = T .position; aligned = columns (R .rows) ++ T .aligned } =
+      ap (run published size k at lines) (side-split s n input below whole left) ∙ rw long at by-row in
+      let many : length outs ≡ c * n = lo ∙ out-length n left in
+      let put : side c s (i + n) (putMid (c * i) (c * (i + n) - c * i) output outs) ≡ side c s i output ++ side c s n outs =
+      put-side c s i n (c * (i + n) - c * i) output outs below (omega (arith, output-whole, fewer n left, mul-add c i n)) many in
       let same : run published size k (wrapped size (at + n)) ys later ≡ T = ap (λ (l : List ℤ). run published size k (wrapped size (at + n)) l later) (d .places-are) in
       record {
         inside = wrapped-inside size (at + n) (omega (arith, going .inside));
         reached = omega (arith, going .reached);
         same-lines = ly ∙ going .same-lines;
-        same-output = same-len-mid i (i + n - i) output outs lo ∙ going .same-output;
+        same-output = same-len-mid (c * i) (c * (i + n) - c * i) output outs lo ∙ going .same-output;
         same-rows = lr ∙ going .same-rows;
-        rest = went-on g (take i output) outs (columns (R .rows)) T put (d .under g q top) same here (going .rest);
+        rest = went-on g (side c s i output) (side c s n outs) (columns (R .rows)) T put (d .under g q top) same here (going .rest);
+        others = λ t l z. kept t l z ∙ going .others t l z;
       }
+    where
+      kept : (t : ℕ) → t < c → (t ≡ s → ⊥) → side c t frames (putMid (c * i) (c * (i + n) - c * i) output outs) ≡ side c t frames output
+      kept t l z =
+          let all : frames ≡ i + (n + (frames - (i + n))) = omega (arith, going .reached) in
+          ap₂ (λ (f k : ℕ). side c t f (putMid (c * i) k output outs)) all (less n) ∙
+          put-alike c t i n (frames - (i + n)) output outs l (omega (arith, output-whole, fewer n left)) (lo ∙ out-length n left) (rw (less n) at (a .others t l z)) ∙
+          ap (λ (f : ℕ). side c t f output) (sym all)
 
-  pub going-ends : length input ≤ i → RunDone (run published size (bands - 1) from lines₀ input) g lines at output
-  unfolding run outputs
+  pub going-ends : frames ≤ i → SideDone c s (run published size (bands - 1) from lines₀ (side c s frames input)) g lines at output₀ output
+  unfolding run outputs side
   going-ends h =
-      let none : run published size (bands - 1) at lines (drop i input) ≡ record { places = lines; position = at; aligned = [] } =
-      ap (run published size (bands - 1) at lines) (drop-of-length-le input h) in
-      let written : output ≡ take i output ++ [] = sym (take-all i output (omega (arith, going .same-output))) ∙ sym (append-nil (take i output)) in
-      let all : record { places = lines; position = at; outs = output } ≡ went g [] (run published size (bands - 1) from lines₀ input) =
-      ap (λ (l : List ℤ). record { places = lines; position = at; outs = l }) written ∙ ap (went g (take i output)) (sym none) ∙ going .rest in
+      let end : i ≡ frames = omega (arith, going .reached) in
+      let over : frames - i ≡ 0 = omega arith in
+      let r = run published size (bands - 1) from lines₀ (side c s frames input) in
+      let none : run published size (bands - 1) at lines (side c s (frames - i) (drop (c * i) input)) ≡ record { places = lines; position = at; aligned = [] } =
+      ap (λ (k : ℕ). run published size (bands - 1) at lines (side c s k (drop (c * i) input))) over in
+      let written : side c s frames output ≡ side c s i output ++ [] = ap (λ (k : ℕ). side c s k output) (sym end) ∙ sym (append-nil (side c s i output)) in
+      let all : record { places = lines; position = at; outs = side c s frames output } ≡ went g [] r =
+      ap (λ (l : List ℤ). record { places = lines; position = at; outs = l }) written ∙ ap (went g (side c s i output)) (sym none) ∙ going .rest in
+      let outs : side c s frames output ≡ outputs (λ _. g) (r .aligned) = ap (λ (w : Went). w .outs) all in
+      let long : length (outputs (λ _. g) (r .aligned)) ≡ frames = ap length (sym outs) ∙ side-length c s frames output in
       record {
         places-are = ap (λ (w : Went). w .places) all;
         position-is = ap (λ (w : Went). w .position) all;
-        outputs-are = ap (λ (w : Went). w .outs) all;
+        put = record { here = rw long outs; others = λ t l n. rw long (going .others t l n) };
       }

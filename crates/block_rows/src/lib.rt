@@ -1,2 +1,2 @@
-// A block's samples through the lines and weighed. Helpers of the calls: each `requires` what a call has judged.
+// One side's samples through its lines and weighed, row after row. Helpers of the calls: each `requires` what a call has judged.
 pub mod run;

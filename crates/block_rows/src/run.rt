@@ -1,24 +1,22 @@
-// A block's samples through the lines, row after row.
+// One side's samples through its lines, row after row.
 ghost use mathlib.Core.Path.{_≡_};
-ghost use Prim.Native.Nat.{_≤_, _<_, _+_, _-_, _*_};
-ghost use lib.ListN.{length, take};
+ghost use Prim.Native.Nat.{_≤_, _<_, _+_, _-_, _*_, _%_};
+ghost use lib.ListN.{length};
+ghost use Rattle.frames.specs.Frames.{side, sideOf};
 ghost use Rattle.tree.specs.Prototype.{published};
 ghost use Rattle.tree.specs.Signal.{gainOf};
 ghost use Rattle.lines.specs.Cascade.{run};
 ghost use Rattle.lines.specs.Rows.{rowPlaces, wrapped, rowed};
 ghost use Rattle.lines.specs.Helpers.{Region, RowRegion};
 ghost use Rattle.weighing.specs.Helpers.{Allowed, Small};
-ghost use Rattle.block_rows.specs.Helpers.{RowAnswered, RunDone};
+ghost use Rattle.block_rows.specs.Helpers.{SideAnswered, SideDone};
+use frames::count::frames_in;
+use frames::sides::gather;
 use lines::cascade::cascade;
 use lines::row::ROW;
 use weighing::differences::differences;
 use weighing::rows::weigh_rows;
 use whole::counts::least;
-
-// The places of ten rows, and of four: few bands clear few places.
-const TEN_ROWS: usize = 320;
-
-const FOUR_ROWS: usize = 128;
 
 // How many samples the next row has: not past the matrix, the block or the ring's end.
 fn row_length(size: usize, at: usize, left: usize) -> usize
@@ -39,90 +37,67 @@ fn wrapped(size: usize, at: usize) -> usize
     0
 }
 
-// The input put where the cascade takes its row.
-fn put(input: &[i32], rows: &mut [i32])
-    requires { ⌜ length (now input) ≤ length (now rows) ⌝ }
-    ensures { λ _. ⌜ take (length (now (input .entry))) (now (rows .exit)) ≡ now (input .entry) ⌝ }
-{
-    let mut i = 0;
-    while i < input.len() {
-        rows[i] = input[i];
-        i += 1;
-    }
-}
-
-// A row through the lines, and its outputs.
-fn answer_row(
+// A row of n samples of side s: taken out of its frames, through the lines, and its outputs put in the output's frames as that side.
+fn side_row(
     lines: &mut [i32],
     size: usize,
     at: usize,
     bands: usize,
     differences: &[i32; 10],
+    channels: usize,
+    s: usize,
+    n: usize,
     input: &[i32],
     rows: &mut [i32],
     output: &mut [i32],
 )
-    requires { ⌜ RowRegion published bands size at 1 (length (now input)) (now lines) (now rows) × Small (now differences) × (length (now output) ≡ length (now input)) ⌝ }
-    ensures { λ _. ⌜ RowAnswered bands (rowed published size (bands - 1) 1 at (now (lines .entry)) (now (input .entry))) (now (differences .entry)) (now (lines .exit)) (now (output .exit)) ⌝ }
+    requires { ⌜ RowRegion published bands size at 1 n (now lines) (now rows) × Small (now differences) × (s < channels) × (length (now input) ≡ channels * n) × (length (now output) ≡ channels * n) × (channels ≤ 2) ⌝ }
+    ensures { λ _. ⌜ SideAnswered bands channels s n (rowed published size (bands - 1) 1 at (now (lines .entry)) (side channels s n (now (input .entry)))) (now (differences .entry)) (now (lines .exit)) (now (output .entry)) (now (output .exit)) ⌝ }
 {
-    put(input, rows);
-    cascade(lines, size, at, 1, bands, input.len(), rows);
-    weigh_rows(rows, bands, differences, output);
+    gather(input, channels, s, n, rows);
+    cascade(lines, size, at, 1, bands, n, rows);
+    weigh_rows(rows, bands, differences, channels, s, n, output);
 }
 
-// Every sample of the block, from the position `from`, in the matrix lent; answers the position afterwards.
-fn each_row(
+// Every sample of side s, from the position `from`, in the matrix lent; answers the position afterwards.
+pub fn each_row(
     lines: &mut [i32],
     size: usize,
     from: usize,
     bands: usize,
     gains: &[i32],
+    channels: usize,
+    s: usize,
     input: &[i32],
     rows: &mut [i32],
     output: &mut [i32],
 ) -> usize
-    requires { ⌜ Region published bands size 1 (now lines) × (from < size) × Allowed bands (now gains) × (length (now output) ≡ length (now input)) × (rowPlaces * bands ≤ length (now rows)) ⌝ }
-    ensures { λ r. ⌜ RunDone (run published size (bands - 1) from (now (lines .entry)) (now (input .entry))) (gainOf (now (gains .entry))) (now (lines .exit)) r (now (output .exit)) ⌝ }
+    requires { ⌜ Region published bands size 1 (now lines) × (from < size) × Allowed bands (now gains) × (s < channels) × (channels ≤ 2) × (length (now output) ≡ length (now input)) × (length (now input) % channels ≡ 0) × (rowPlaces * bands ≤ length (now rows)) ⌝ }
+    ensures { λ r. ⌜ SideDone channels s (run published size (bands - 1) from (now (lines .entry)) (sideOf channels s (now (input .entry)))) (gainOf (now (gains .entry))) (now (lines .exit)) r (now (output .entry)) (now (output .exit)) ⌝ }
 {
     let differences = differences(gains);
+    let frames = frames_in(input.len(), channels);
     let mut at = from;
     let mut i = 0;
-    while i < input.len() {
-        let n = row_length(size, at, input.len() - i);
-        let end = i + n;
-        answer_row(
+    while i < frames {
+        let n = row_length(size, at, frames - i);
+        let first = channels * i;
+        let end = channels * (i + n);
+        side_row(
             lines,
             size,
             at,
             bands,
             &differences,
-            &input[i..end],
+            channels,
+            s,
+            n,
+            &input[first..end],
             rows,
-            &mut output[i..end],
+            &mut output[first..end],
         );
         at = wrapped(size, at + n);
-        i = end;
+        i += n;
     }
     at
-}
-
-// Every sample of the block, from the position `from`; answers the position afterwards.
-pub fn run(
-    lines: &mut [i32],
-    size: usize,
-    from: usize,
-    bands: usize,
-    gains: &[i32],
-    input: &[i32],
-    output: &mut [i32],
-) -> usize
-    requires { ⌜ Region published bands size 1 (now lines) × (from < size) × Allowed bands (now gains) × (length (now output) ≡ length (now input)) ⌝ }
-    ensures { λ r. ⌜ RunDone (run published size (bands - 1) from (now (lines .entry)) (now (input .entry))) (gainOf (now (gains .entry))) (now (lines .exit)) r (now (output .exit)) ⌝ }
-{
-    if bands <= 4 {
-        let mut rows = [0i32; FOUR_ROWS];
-        return each_row(lines, size, from, bands, gains, input, &mut rows, output);
-    }
-    let mut rows = [0i32; TEN_ROWS];
-    each_row(lines, size, from, bands, gains, input, &mut rows, output)
 }

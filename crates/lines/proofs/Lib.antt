@@ -6,3 +6,4 @@ pub mod Loops
 pub mod Parts
 pub mod Regions
 pub mod Cascading
+pub mod Lengths

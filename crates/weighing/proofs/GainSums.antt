@@ -4,9 +4,8 @@ use mathlib.Core.List.{List, [], _∷_}
 use Prim.Native.Nat.{ℕ, zero, suc, _+_, _-_, _*_, _^_, _≤_, _<_}
 use native.Mathlib.Nat.{mul-le-mul}
 use native.Mathlib.Omega.{arith}
-use native.Mathlib.Decide.{decLt}
-use lib.ListN.{length, getD, set, length-set}
-use lib.Seq.{ext-getD, getD-set-same, getD-set-other}
+use lib.ListN.{length, getD}
+use lib.Seq.{ext-getD}
 use lib.IntN.{ℤ, pos, natAbs, _+ℤ_, _-ℤ_, _*ℤ_}
 use lib.Dec.{lit<, lit≤}
 use lib.Signed.{natAbs-le}
@@ -152,7 +151,7 @@ module _ {bands i : ℕ} {matrix ds : List ℤ} {s : ℤ} {b at : ℕ} (k : Summ
 
 -- ---- the outputs of a row
 
-outputs-length : (g : ℕ → ℕ → ℤ) (cols : List (List ℤ)) → length (outputs g cols) ≡ length cols
+pub outputs-length : (g : ℕ → ℕ → ℤ) (cols : List (List ℤ)) → length (outputs g cols) ≡ length cols
 unfolding outputs
 outputs-length g [] = refl
 outputs-length g (a ∷ cols) = ap suc (outputs-length (λ i. g (suc i)) cols)
@@ -163,46 +162,33 @@ outputs-at g [] i h = absurd (omega arith)
 outputs-at g (a ∷ cols) zero h = refl
 outputs-at g (a ∷ cols) (suc i) h = outputs-at g cols i (omega arith)
 
--- up to sample i the outputs stand
-pub record Written (bands : ℕ) (matrix ds output₀ output : List ℤ) (i : ℕ) : Type 0 where
-  pub same : length output ≡ length output₀
-  pub stands : (j : ℕ) → j < i → getD output j (pos 0) ≡ outOf (gainSum bands bands j matrix ds)
-
-pub written-starts : (bands : ℕ) (matrix ds output : List ℤ) → Written bands matrix ds output output 0
-written-starts bands matrix ds output = record { same = refl; stands = λ j h. absurd (omega arith) }
-
 -- what the rounding asks
 pub done-room : {bands i : ℕ} {matrix ds : List ℤ} {s : ℤ} → bands ≤ 10 → SumDone bands i matrix ds s → natAbs (raw w64 s) ≤ 2 ^ 62
 done-room {s = s} few d = rw (toZ-ofZ {w = w64} {z = s} (record { sfits = omega (arith, about s, d .bounded) })) (omega (arith, d .bounded))
 
-module _ {bands : ℕ} {matrix ds output₀ output : List ℤ} {i : ℕ} (w : Written bands matrix ds output₀ output i) where
-  pub written-on : {s n r : ℤ} → bands ≤ 10 → i < length output → SumDone bands i matrix ds s → n ≡ nearest unity (raw w64 s) → r ≡ limit leastSample mostSample (raw w64 n) →
-      Written bands matrix ds output₀ (set output i (raw w32 r)) (i + 1)
-  written-on {s} {n} {r} few h d en er =
-      let s-back : raw w64 s ≡ s = toZ-ofZ (record { sfits = omega (arith, about s, d .bounded) }) in
-      let n-is : n ≡ nearest unity s = en ∙ ap (nearest unity) s-back in
-      let n-back : raw w64 n ≡ n = toZ-ofZ (rw n-is (nearest-fits 4096 (lit< tt) (lit≤ tt) s (omega (arith, d .bounded)))) in
-      let r-is : r ≡ outOf s = er ∙ ap (limit leastSample mostSample) (n-back ∙ n-is) in
-      let back : raw w32 r ≡ outOf (gainSum bands bands i matrix ds) = toZ-ofZ (rw r-is (limit24-fits (nearest unity s))) ∙ r-is ∙ ap outOf (d .value) in
-      record { same = length-set output i (raw w32 r) ∙ w .same; stands = λ j l. by j l back (decLt j i) }
-    where
-      by : (j : ℕ) → j < i + 1 → raw w32 r ≡ outOf (gainSum bands bands i matrix ds) → Dec (j < i) →
-          getD (set output i (raw w32 r)) j (pos 0) ≡ outOf (gainSum bands bands j matrix ds)
-      by j l back (yes q) = getD-set-other output i j (raw w32 r) (pos 0) (λ z. omega arith) ∙ w .stands j q
-      by j l back (no q) = let z : j ≡ i = omega arith in rw z (getD-set-same output i (raw w32 r) (pos 0) h ∙ back)
+-- the output that a sum comes to, in 32 bits
+pub out-back : {bands i : ℕ} {matrix ds : List ℤ} {s n r : ℤ} → bands ≤ 10 → SumDone bands i matrix ds s → n ≡ nearest unity (raw w64 s) → r ≡ limit leastSample mostSample (raw w64 n) →
+    raw w32 r ≡ outOf (gainSum bands bands i matrix ds)
+out-back {s = s} {n} {r} few d en er =
+    let s-back : raw w64 s ≡ s = toZ-ofZ (record { sfits = omega (arith, about s, d .bounded) }) in
+    let n-is : n ≡ nearest unity s = en ∙ ap (nearest unity) s-back in
+    let n-back : raw w64 n ≡ n = toZ-ofZ (rw n-is (nearest-fits 4096 (lit< tt) (lit≤ tt) s (omega (arith, d .bounded)))) in
+    let r-is : r ≡ outOf s = er ∙ ap (limit leastSample mostSample) (n-back ∙ n-is) in
+    toZ-ofZ (rw r-is (limit24-fits (nearest unity s))) ∙ r-is ∙ ap outOf (d .value)
 
-  pub written-ends : 1 ≤ bands → length output ≤ i → RowWeighed bands matrix ds output
-  written-ends some h = record { under = λ g rows d top count even sh. by g rows d top count even sh }
-    where
-      by : (g : ℕ → ℤ) (rows : List (List ℤ)) → Differ bands g ds → g (suc bands) ≡ pos 0 → length rows ≡ bands → Even (length output) rows →
-          Shown (length output) rows matrix → output ≡ outputs (λ _. g) (columns rows)
-      by g [] d top count even sh = absurd (omega arith)
-      by g (row ∷ rows) d top count even sh =
-          let cols = columns (row ∷ rows) in
-          let n = length output in
-          let long : length cols ≡ n = columns-length n row rows even in
-          ext-getD (pos 0) output (outputs (λ _. g) cols) (sym (outputs-length (λ _. g) cols ∙ long))
-          (λ j l. w .stands j (omega arith) ∙
-          ap outOf (ap (λ (m : ℕ). gainSum m m j matrix ds) (sym count) ∙ sum-is g ds matrix n j row rows l sh (rw count d) (rw count top) ∙
-          ap (bandSum g) (sym (column-is n j row rows l even))) ∙
-          sym (outputs-at g cols j (omega arith)))
+-- outputs of all samples are the outputs of the rows
+pub outputs-weighed : (bands : ℕ) (matrix ds outs : List ℤ) → 1 ≤ bands → ((j : ℕ) → j < length outs → getD outs j (pos 0) ≡ outOf (gainSum bands bands j matrix ds)) → RowWeighed bands matrix ds outs
+outputs-weighed bands matrix ds outs some stands = record { under = λ g rows d top count even sh. by g rows d top count even sh }
+  where
+    by : (g : ℕ → ℤ) (rows : List (List ℤ)) → Differ bands g ds → g (suc bands) ≡ pos 0 → length rows ≡ bands → Even (length outs) rows →
+        Shown (length outs) rows matrix → outs ≡ outputs (λ _. g) (columns rows)
+    by g [] d top count even sh = absurd (omega arith)
+    by g (row ∷ rows) d top count even sh =
+        let cols = columns (row ∷ rows) in
+        let n = length outs in
+        let long : length cols ≡ n = columns-length n row rows even in
+        ext-getD (pos 0) outs (outputs (λ _. g) cols) (sym (outputs-length (λ _. g) cols ∙ long))
+        (λ j l. stands j l ∙
+        ap outOf (ap (λ (m : ℕ). gainSum m m j matrix ds) (sym count) ∙ sum-is g ds matrix n j row rows l sh (rw count d) (rw count top) ∙
+        ap (bandSum g) (sym (column-is n j row rows l even))) ∙
+        sym (outputs-at g cols j (omega arith)))

@@ -5,6 +5,7 @@ use Prim.Native.Nat.{ℕ, suc, _+_, _-_, _*_, _^_, _≤_, _<_}
 use lib.ListN.{length, getD}
 use lib.IntN.{ℤ, pos, natAbs, _-ℤ_, _*ℤ_}
 use Rattle.whole.specs.Sum.{sum}
+use Rattle.frames.specs.Frames.{side}
 use Rattle.lines.specs.Rows.{rowPlaces, Shown, columns, Even}
 use Rattle.weighing.specs.Weighing.{outputs}
 
@@ -38,3 +39,8 @@ pub record SumDone (bands i : ℕ) (matrix differences : List ℤ) (r : ℤ) : T
 pub record RowWeighed (bands : ℕ) (matrix differences outs : List ℤ) : Type 0 where
   pub under : (g : ℕ → ℤ) (rows : List (List ℤ)) → Differ bands g differences → g (suc bands) ≡ pos 0 → length rows ≡ bands → Even (length outs) rows →
       Shown (length outs) rows matrix → outs ≡ outputs (λ _. g) (columns rows)
+
+-- .. those n outputs put back as side s of a block's frames, each other side as it was before
+pub record SideWeighed (channels s n bands : ℕ) (matrix differences before after : List ℤ) : Type 0 where
+  pub weighed : RowWeighed bands matrix differences (side channels s n after)
+  pub others : (t : ℕ) → t < channels → (t ≡ s → ⊥) → side channels t n after ≡ side channels t n before

@@ -1,8 +1,9 @@
 // The aligned rows of the lines weighed with the gain differences: the gain sum, rounded once and limited once. Gains enter here alone.
 ghost use Prim.Native.Nat.{_≤_, _<_, _*_};
+ghost use mathlib.Core.Path.{_≡_};
 ghost use lib.ListN.{length};
 ghost use Rattle.lines.specs.Rows.{rowPlaces};
-ghost use Rattle.weighing.specs.Helpers.{Small, SumDone, RowWeighed};
+ghost use Rattle.weighing.specs.Helpers.{Small, SumDone, SideWeighed};
 use lines::row::ROW;
 use whole::limiting::limit_24;
 use whole::products::multiply_add;
@@ -26,14 +27,22 @@ fn sum_at(rows: &[i32], bands: usize, i: usize, differences: &[i32; 10]) -> i64
     sum
 }
 
-// An output for each sample of the rows.
-pub fn weigh_rows(rows: &[i32], bands: usize, differences: &[i32; 10], output: &mut [i32])
-    requires { ⌜ (1 ≤ bands) × (bands ≤ 10) × (length (now output) ≤ rowPlaces) × (rowPlaces * bands ≤ length (now rows)) × Small (now differences) ⌝ }
-    ensures { λ _. ⌜ RowWeighed bands (now (rows .entry)) (now (differences .entry)) (now (output .exit)) ⌝ }
+// An output for each of the n samples of the rows, put in the output's frames as side s.
+pub fn weigh_rows(
+    rows: &[i32],
+    bands: usize,
+    differences: &[i32; 10],
+    channels: usize,
+    s: usize,
+    n: usize,
+    output: &mut [i32],
+)
+    requires { ⌜ (1 ≤ bands) × (bands ≤ 10) × (n ≤ rowPlaces) × (rowPlaces * bands ≤ length (now rows)) × Small (now differences) × (s < channels) × (length (now output) ≡ channels * n) ⌝ }
+    ensures { λ _. ⌜ SideWeighed channels s n bands (now (rows .entry)) (now (differences .entry)) (now (output .entry)) (now (output .exit)) ⌝ }
 {
     let mut i = 0;
-    while i < output.len() {
-        output[i] = limit_24(nearest_4096(sum_at(rows, bands, i, differences)));
+    while i < n {
+        output[channels * i + s] = limit_24(nearest_4096(sum_at(rows, bands, i, differences)));
         i += 1;
     }
 }
