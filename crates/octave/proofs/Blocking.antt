@@ -2,7 +2,7 @@
 use mathlib.Core.Path.{_≡_, sym, ap, ap₂, _∙_}
 use mathlib.Core.Bool.{true}
 use mathlib.Core.List.{List, [], _∷_}
-use Prim.Native.Nat.{ℕ, _+_, _-_, _*_, _^_, _≤_, _<_}
+use Prim.Native.Nat.{ℕ, _+_, _-_, _*_, _/_, _%_, _^_, _≤_, _<_}
 use native.Mathlib.Nat.{one-mul}
 use native.Mathlib.Omega.{arith}
 use native.Mathlib.Decide.{decLt}
@@ -21,15 +21,16 @@ use Rattle.tree.specs.Prototype.{published}
 use Rattle.tree.specs.Signal.{gainOf}
 use Rattle.ring.specs.Line.{next}
 use Rattle.lines.specs.Cascade.{Ran, step, run}
-use Rattle.lines.specs.Helpers.{Region}
-use Rattle.octave.specs.Memory.{lineLength, headPlaces, heldIn, memoryOf}
+use Rattle.octave.specs.Memory.{lineLength, sidePlaces, headPlaces, heldIn, memoryOf}
 use Rattle.weighing.specs.Weighing.{outputs}
 use Rattle.octave.specs.Block.{equalised}
 use Rattle.weighing.specs.Helpers.{Allowed}
-use Rattle.block_rows.specs.Helpers.{RunDone}
+use Rattle.block_sides.specs.Helpers.{Sides, SidesDone}
+use Rattle.frames.specs.Frames.{sideOf, woven, behind, placesOf}
+use Rattle.frames.proofs.Laws.{places-length}
 use Rattle.octave.proofs.Ranges.{within-parts}
 use Rattle.octave.proofs.Layouts.{line-small}
-use Rattle.octave.proofs.Memories.{lent-is, memory-with, Accepted}
+use Rattle.octave.proofs.Memories.{lent-is, memory-with, Accepted, bands-few, channels-few}
 use Rattle.block_rows.proofs.Running.{wrapped-inside}
 
 -- ---- the gains
@@ -57,43 +58,61 @@ position-inside size k (x ∷ xs) lines at h =
 abbrev lent : List ℤ → List ℤ
 lent m = take (length m - headPlaces) (drop headPlaces m)
 
-module _ {m : List ℤ} {bands size from : ℕ} (a : Accepted m bands) (es : size ≡ lineLength bands) (ef : from ≡ natAbs (heldIn m .position)) where
+module _ {m : List ℤ} {bands channels size from : ℕ} (a : Accepted m bands channels) (es : size ≡ lineLength bands) (ef : from ≡ natAbs (heldIn m .position)) where
   few : bands ≤ 10
-  few = omega (arith, a .count .most, a .bands-are)
+  few = bands-few a .1
 
-  pub region-is : Region published bands size 1 (lent m)
-  region-is =
+  lent-length : length (heldIn m .lines) ≡ channels * sidePlaces bands
+  lent-length = length-drop headPlaces m ∙ omega (arith, a .long)
+
+  pub sides-are : {input output : List ℤ} → length output ≡ length input → length input % channels ≡ 0 → Sides bands size channels (lent m) input output
+  sides-are alike whole =
       rw (lent-is m, es)
       (record {
-        some = omega (arith, a .count .least, a .bands-are);
-        few = few;
-        stretch = omega arith;
-        sized = ap (λ (k : ℕ). 9 * k) (sym (one-mul (2 ^ (bands - 1))));
-        whole = rw (length-drop headPlaces m, a .long) (omega arith);
-        small = line-small bands few;
+        some = channels-few a .0;
+        few = channels-few a .1;
+        whole = lent-length;
+        region =
+            record {
+              some = omega (arith, bands-few a .0);
+              few = few;
+              stretch = omega arith;
+              sized = ap (λ (k : ℕ). 9 * k) (sym (one-mul (2 ^ (bands - 1))));
+              whole = places-length channels (sidePlaces bands) 0 (heldIn m .lines) lent-length (channels-few a .0);
+              small = line-small bands few;
+            };
+        alike = alike;
+        frames = whole;
       })
 
   pub from-inside : from < size
   from-inside = rw (es, ef) (a .inside)
 
-  module _ (gains input : List ℤ) {ys outs : List ℤ} {at : ℕ} (d : RunDone (run published size (bands - 1) from (lent m) input) (gainOf gains) ys at outs) where
+  module _ (gains input : List ℤ) {ys outs : List ℤ} {at : ℕ}
+      (d : SidesDone channels (length input / channels) (λ s. run published size (bands - 1) from (placesOf ((bands - 1) * size) s (lent m)) (sideOf channels s input)) (gainOf gains) ys at outs) where
     pub position-small : at < 2 ^ 31
-    position-small = rw (d .position-is) (omega (arith, position-inside size (bands - 1) input (lent m) from from-inside, es, line-small bands few))
+    position-small =
+        rw (d .position-is)
+        (omega (arith, position-inside size (bands - 1) (sideOf channels 0 input) (placesOf ((bands - 1) * size) 0 (lent m)) from from-inside, es, line-small bands few))
 
-    pub equalised-is : (set (putMid headPlaces (length m - headPlaces) m ys) 1 (toZ w32 at), outs) ≡ equalised m gains input
+    pub equalised-is : (set (putMid headPlaces (length m - headPlaces) m ys) 2 (toZ w32 at), outs) ≡ equalised m gains input
     equalised-is =
         let count : heldIn m .count ≡ pos bands = sym (pos-natAbs (heldIn m .count) (a .count .not-negative)) ∙ ap pos (a .bands-are) in
-        let done : RunDone (run published (lineLength bands) (bands - 1) (natAbs (heldIn m .position)) (heldIn m .lines) input) (gainOf gains) ys at outs =
-        rw (lent-is m, es, ef) at d in
-        let kept : set (putMid headPlaces (length m - headPlaces) m ys) 1 (toZ w32 at) ≡ memoryOf (record { count = pos bands; position = pos (ran bands .position); lines = ran bands .places }) =
-        memory-with m ys (toZ w32 at) (omega (arith, a .long)) ∙ ap₂ (λ (n : ℤ) (l : List ℤ). n ∷ toZ w32 at ∷ l) count (done .places-are) ∙
-        ap (λ (z : ℤ). pos bands ∷ z ∷ ran bands .places) (toZ-pos w32 position-small ∙ ap pos (done .position-is)) in
-        _∙_ {b = through bands} (ap₂ (λ (u v : List ℤ). (u, v)) kept (done .outputs-are)) (ap through (sym (a .bands-are)))
+        let sides : heldIn m .channels ≡ pos channels = sym (pos-natAbs (heldIn m .channels) (a .sides .not-negative)) ∙ ap pos (a .channels-are) in
+        let done : SidesDone channels (length input / channels) (ran bands channels) (gainOf gains) ys at outs = rw (lent-is m, es, ef) at d in
+        let lines = behind channels (λ s. ran bands channels s .places) in
+        let kept : set (putMid headPlaces (length m - headPlaces) m ys) 2 (toZ w32 at) ≡ pos bands ∷ pos channels ∷ pos (ran bands channels 0 .position) ∷ lines =
+        memory-with m ys (toZ w32 at) (omega (arith, a .long)) ∙ ap₂ (λ (b n : ℤ). b ∷ n ∷ toZ w32 at ∷ ys) count sides ∙
+        ap₂ (λ (z : ℤ) (l : List ℤ). pos bands ∷ pos channels ∷ z ∷ l) (toZ-pos w32 position-small ∙ ap pos (done .position-is)) (done .places-are) in
+        _∙_ {b = through bands channels} (ap₂ (λ (u v : List ℤ). (u, v)) kept (done .outputs-are)) (ap₂ through (sym (a .bands-are)) (sym (a .channels-are)))
       where
-        -- with M bands
-        ran : ℕ → Ran
-        ran M = run published (lineLength M) (M - 1) (natAbs (heldIn m .position)) (heldIn m .lines) input
+        -- side s with M bands and c channels
+        ran : (M c s : ℕ) → Ran
+        ran M c s = run published (lineLength M) (M - 1) (natAbs (heldIn m .position)) (placesOf (sidePlaces M) s (heldIn m .lines)) (sideOf c s input)
 
         -- memory and output then
-        through : ℕ → List ℤ × List ℤ
-        through M = (memoryOf (record { count = pos M; position = pos (ran M .position); lines = ran M .places }), outputs (λ _. gainOf gains) (ran M .aligned))
+        through : (M c : ℕ) → List ℤ × List ℤ
+        through M c = (
+          memoryOf (record { count = pos M; channels = pos c; position = pos (ran M c 0 .position); lines = behind c (λ s. ran M c s .places) }),
+          woven c (length input / c) (λ s. outputs (λ _. gainOf gains) (ran M c s .aligned)),
+        )

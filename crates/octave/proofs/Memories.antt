@@ -16,16 +16,16 @@ use lib.Signed.{ltZ, nonNeg}
 use types.Run.{OneOf}
 use denote.Enum.Declared.{tagOf}
 use Rattle.answers.specs.Answer.{numberIn}
-use Rattle.answers.specs.Checks.{allHold}
+use Rattle.answers.specs.Checks.{allHold, choose}
 use Rattle.answers.specs.Judging.{allRefuse}
 use Rattle.answers.proofs.Laws.{and-left, and-right, chosen-all, chosen-holds, chosen-fails}
 use Rattle.tree.specs.Prototype.{published}
 use Rattle.tree.specs.Tree.{delay}
 use Rattle.octave.specs.declared.memory.Kept.{Kept}
-use Rattle.octave.specs.declared.memory.Kept.the-variants.{Bands, CountWrong, LengthWrong, PositionOutside}
+use Rattle.octave.specs.declared.memory.Kept.the-variants.{Holds, CountWrong, LengthWrong, PositionOutside}
 use Rattle.octave.specs.Answer.{keptAnswer}
-use Rattle.octave.specs.Memory.{lineLength, memoryLength, countAllowed, prepared, Held, headPlaces, heldIn, memoryOf, bandsIn, positionWithin, memoryChecks, accepts, keptOf}
-use Rattle.octave.proofs.Ranges.{Count, count-of}
+use Rattle.octave.specs.Memory.{lineLength, sidePlaces, memoryLength, countAllowed, channelsAllowed, prepared, Held, headPlaces, heldIn, memoryOf, bandsIn, channelsIn, positionWithin, memoryChecks, accepts, keptOf}
+use Rattle.octave.proofs.Ranges.{Count, bands-of, channels-of}
 use Rattle.octave.proofs.memory.Kept as kept
 
 -- ---- the head and the lines
@@ -34,30 +34,32 @@ use Rattle.octave.proofs.memory.Kept as kept
 memory-is : (m : List ℤ) → headPlaces ≤ length m → memoryOf (heldIn m) ≡ m
 memory-is [] h = absurd (omega arith)
 memory-is (x ∷ []) h = absurd (omega arith)
-memory-is (x ∷ y ∷ m) h = refl
+memory-is (x ∷ y ∷ []) h = absurd (omega arith)
+memory-is (x ∷ y ∷ z ∷ m) h = refl
 
 -- the lines, as they are lent
 pub lent-is : (m : List ℤ) → take (length m - headPlaces) (drop headPlaces m) ≡ heldIn m .lines
 lent-is m = take-all (length m - headPlaces) (drop headPlaces m) (simp length-drop (omega arith))
 
--- other lines and another position under the same count
+-- other lines and another position under the same counts
 pub memory-with : (m ys : List ℤ) (p : ℤ) → headPlaces ≤ length m →
-    set (putMid headPlaces (length m - headPlaces) m ys) 1 p ≡ memoryOf (record { count = heldIn m .count; position = p; lines = ys })
-memory-with m ys p h = ap (λ (l : List ℤ). set (putMid headPlaces (length l - headPlaces) l ys) 1 p) (sym (memory-is m h)) ∙ held (heldIn m)
+    set (putMid headPlaces (length m - headPlaces) m ys) 2 p ≡ memoryOf (record { count = heldIn m .count; channels = heldIn m .channels; position = p; lines = ys })
+memory-with m ys p h = ap (λ (l : List ℤ). set (putMid headPlaces (length l - headPlaces) l ys) 2 p) (sym (memory-is m h)) ∙ held (heldIn m)
   where
-    held : (h : Held) → set (putMid headPlaces (length (memoryOf h) - headPlaces) (memoryOf h) ys) 1 p ≡ memoryOf (record { count = h .count; position = p; lines = ys })
+    held : (h : Held) → set (putMid headPlaces (length (memoryOf h) - headPlaces) (memoryOf h) ys) 2 p ≡
+        memoryOf (record { count = h .count; channels = h .channels; position = p; lines = ys })
     held h =
-        ap (λ (l : List ℤ). h .count ∷ p ∷ (ys ++ l)) (drop-of-length-le (h .lines) {i = length (memoryOf h) - headPlaces} (omega arith)) ∙
-        ap (λ (l : List ℤ). h .count ∷ p ∷ l) (append-nil ys)
+        ap (λ (l : List ℤ). h .count ∷ h .channels ∷ p ∷ (ys ++ l)) (drop-of-length-le (h .lines) {i = length (memoryOf h) - headPlaces} (omega arith)) ∙
+        ap (λ (l : List ℤ). h .count ∷ h .channels ∷ p ∷ l) (append-nil ys)
 
 -- ---- the prepared memory
 
--- zeros with the count in front are the prepared memory
-pub prepared-is : (M : ℕ) {n : ℕ} → n ≡ memoryLength M → set (replicate n (pos 0)) 0 (pos M) ≡ prepared M
-prepared-is M {n} e = rw (e ∙ two ((M - 1) * lineLength M)) refl
+-- zeros with the counts in front are the prepared memory
+pub prepared-is : (M c : ℕ) {n : ℕ} → n ≡ memoryLength M c → set (set (replicate n (pos 0)) 0 (pos M)) 1 (pos c) ≡ prepared M c
+prepared-is M c {n} e = rw (e ∙ three (c * sidePlaces M)) refl
   where
-    two : (k : ℕ) → 2 + k ≡ suc (suc k)
-    two k = omega arith
+    three : (k : ℕ) → 3 + k ≡ suc (suc (suc k))
+    three k = omega arith
 
 pub delay-is : (M : ℕ) {n : ℕ} → n ≡ lineLength M → n - 9 ≡ delay published M
 delay-is M e = rw (e, mul-sub 9 (2 ^ (M - 1)) 1) refl
@@ -77,57 +79,93 @@ position-parts size at e = by (ltZ at (pos 0)) refl e
 
 -- ---- an accepted memory
 
-pub record Accepted (m : List ℤ) (bands : ℕ) : Type 0 where
-  pub count : Count (heldIn m .count)
+pub record Accepted (m : List ℤ) (bands channels : ℕ) : Type 0 where
+  pub count : Count 2 10 (heldIn m .count)
+  pub sides : Count 1 2 (heldIn m .channels)
   pub bands-are : bandsIn m ≡ bands
-  pub long : length m ≡ memoryLength bands
+  pub channels-are : channelsIn m ≡ channels
+  pub long : length m ≡ memoryLength bands channels
   pub not-below : ltZ (heldIn m .position) (pos 0) ≡ false
   pub inside : natAbs (heldIn m .position) < lineLength bands
 
-pub accepted-is : (m : List ℤ) (bands : ℕ) → accepts m ≡ true → bands ≡ bandsIn m → Accepted m bands
+-- the counts within their ranges
+pub bands-few : {m : List ℤ} {bands channels : ℕ} → Accepted m bands channels → (2 ≤ bands) × (bands ≤ 10)
+bands-few a = (omega (arith, a .count .from, a .bands-are), omega (arith, a .count .to, a .bands-are))
+
+pub channels-few : {m : List ℤ} {bands channels : ℕ} → Accepted m bands channels → (1 ≤ channels) × (channels ≤ 2)
+channels-few a = (omega (arith, a .sides .from, a .channels-are), omega (arith, a .sides .to, a .channels-are))
+
+pub accepted-is : (m : List ℤ) (bands channels : ℕ) → accepts m ≡ true → bands ≡ bandsIn m → channels ≡ channelsIn m → Accepted m bands channels
 unfolding allHold
-accepted-is m bands e b =
-    let C : Bool = countAllowed (heldIn m .count) in
-    let L : Bool = eqb (length m) (memoryLength (bandsIn m)) in
+accepted-is m bands channels e b c =
+    let B : Bool = countAllowed (heldIn m .count) in
+    let C : Bool = channelsAllowed (heldIn m .channels) in
+    let L : Bool = eqb (length m) (memoryLength (bandsIn m) (channelsIn m)) in
     let P : Bool = positionWithin (lineLength (bandsIn m)) (heldIn m .position) in
-    let rest : (L && (P && true)) ≡ true = and-right C (L && (P && true)) e in
+    let sides : (C && (L && (P && true))) ≡ true = and-right B (C && (L && (P && true))) e in
+    let rest : (L && (P && true)) ≡ true = and-right C (L && (P && true)) sides in
     let p = position-parts (lineLength (bandsIn m)) (heldIn m .position) (and-left P true (and-right L (P && true) rest)) in
-    rw b
+    rw (b, c)
     (record {
-      count = count-of (heldIn m .count) (and-left C (L && (P && true)) e);
+      count = bands-of (heldIn m .count) (and-left B (C && (L && (P && true))) e);
+      sides = channels-of (heldIn m .channels) (and-left C (L && (P && true)) sides);
       bands-are = refl;
-      long = eqb-true (length m) (memoryLength (bandsIn m)) (and-left L (P && true) rest);
+      channels-are = refl;
+      long = eqb-true (length m) (memoryLength (bandsIn m) (channelsIn m)) (and-left L (P && true) rest);
       not-below = p .0;
       inside = p .1;
     })
 
--- a memory whose parts are right is accepted
-pub accepts-is : (m : List ℤ) → countAllowed (heldIn m .count) ≡ true → length m ≡ memoryLength (bandsIn m) → ltZ (heldIn m .position) (pos 0) ≡ false →
-    natAbs (heldIn m .position) < lineLength (bandsIn m) → accepts m ≡ true
+pub accepted-count : (m : List ℤ) → accepts m ≡ true → countAllowed (heldIn m .count) ≡ true
 unfolding allHold
-accepts-is m c l n h =
-    rw (c, eq-eqb (length m) (memoryLength (bandsIn m)) l, n, lt-ltb (natAbs (heldIn m .position)) (lineLength (bandsIn m)) h)
+accepted-count m e =
+    and-left (countAllowed (heldIn m .count))
+    (channelsAllowed (heldIn m .channels) && (eqb (length m) (memoryLength (bandsIn m) (channelsIn m)) && (positionWithin (lineLength (bandsIn m)) (heldIn m .position) && true))) e
+
+-- a memory whose parts are right is accepted
+pub accepts-is : (m : List ℤ) → countAllowed (heldIn m .count) ≡ true → channelsAllowed (heldIn m .channels) ≡ true → length m ≡ memoryLength (bandsIn m) (channelsIn m) →
+    ltZ (heldIn m .position) (pos 0) ≡ false → natAbs (heldIn m .position) < lineLength (bandsIn m) → accepts m ≡ true
+unfolding allHold
+accepts-is m b c l n h =
+    rw (b, c, eq-eqb (length m) (memoryLength (bandsIn m) (channelsIn m)) l, n, lt-ltb (natAbs (heldIn m .position)) (lineLength (bandsIn m)) h)
 
 -- ---- how judging tells it
+
+-- a memory with fewer than two places has no channel count
+pub too-short : (m : List ℤ) → length m < 2 → CountWrong ≡ keptOf m
+unfolding choose
+too-short [] h = refl
+too-short (x ∷ []) h = by (countAllowed x)
+  where
+    by : (t : Bool) → CountWrong ≡ cond t CountWrong CountWrong
+    by true = refl
+    by false = refl
+too-short (x ∷ y ∷ m) h = absurd (omega arith)
 
 all-refuse : (m : List ℤ) → allRefuse keptAnswer (memoryChecks m) ≡ true
 unfolding allRefuse
 all-refuse m = refl
 
 module _ (m : List ℤ) (k : Kept) (judged : k ≡ keptOf m) where
-  -- one of the three cases that are no bands
+  -- one of the three cases that are no counts
   pub kept-wrong : OneOf (1 ∷ 2 ∷ 3 ∷ []) (tagOf kept.the-type k) → accepts m ≡ false
-  kept-wrong t = chosen-fails keptAnswer (memoryChecks m) (Bands (bandsIn m)) (λ z. by k t (ap (λ (q : Kept). numberIn (keptAnswer q)) judged ∙ z)) refl
+  kept-wrong t = chosen-fails keptAnswer (memoryChecks m) (Holds (bandsIn m) (channelsIn m)) (λ z. by k t (ap (λ (q : Kept). numberIn (keptAnswer q)) judged ∙ z)) refl
     where
       by : (k : Kept) → OneOf (1 ∷ 2 ∷ 3 ∷ []) (tagOf kept.the-type k) → numberIn (keptAnswer k) ≡ 0 → ⊥
-      by (Bands n) t z = ⊎-elim (λ (e : _≡_ {A = ℕ} 0 1). omega arith) (⊎-elim (λ (e : _≡_ {A = ℕ} 0 2). omega arith) (λ (e : _≡_ {A = ℕ} 0 3). omega arith)) t
+      by (Holds b c) t z = ⊎-elim (λ (e : _≡_ {A = ℕ} 0 1). omega arith) (⊎-elim (λ (e : _≡_ {A = ℕ} 0 2). omega arith) (λ (e : _≡_ {A = ℕ} 0 3). omega arith)) t
       by CountWrong t z = omega arith
       by LengthWrong t z = omega arith
       by PositionOutside t z = omega arith
 
-  module _ (bands : ℕ) (is : k ≡ Bands bands) where
+  module _ (bands channels : ℕ) (is : k ≡ Holds bands channels) where
     pub kept-right : accepts m ≡ true
-    kept-right = chosen-holds keptAnswer (memoryChecks m) (Bands (bandsIn m)) bands (all-refuse m) (ap keptAnswer (sym judged ∙ is))
+    kept-right = chosen-holds keptAnswer (memoryChecks m) (Holds (bandsIn m) (channelsIn m)) (bands, channels) (all-refuse m) (ap keptAnswer (sym judged ∙ is))
+
+    same : Holds bands channels ≡ Holds (bandsIn m) (channelsIn m)
+    same = sym is ∙ judged ∙ chosen-all (Holds (bandsIn m) (channelsIn m)) (memoryChecks m) kept-right
 
     pub kept-bands : bands ≡ bandsIn m
-    kept-bands = let e : Bands bands ≡ Bands (bandsIn m) = sym is ∙ judged ∙ chosen-all (Bands (bandsIn m)) (memoryChecks m) kept-right in cc
+    kept-bands = let e = same in cc
+
+    pub kept-channels : channels ≡ channelsIn m
+    kept-channels = let e = same in cc

@@ -2,7 +2,7 @@
 ghost use mathlib.Core.Path.{_≡_};
 ghost use Rattle.answers.specs.Checks.{Done};
 ghost use Rattle.octave.specs.Block.{equalised, blockOf};
-ghost use Rattle.octave.specs.Helpers.{KeptBands, Judged};
+ghost use Rattle.octave.specs.Helpers.{KeptCounts, Judged};
 use crate::layout::HEAD;
 use crate::layout::POSITION;
 use crate::layout::line_length;
@@ -13,39 +13,59 @@ use answers::unit::BLOCK_LIMIT;
 use answers::unit::LARGEST_GAIN;
 use answers::unit::LEAST_SAMPLE;
 use answers::unit::MOST_SAMPLE;
-use block_rows::run::run;
+use block_sides::run::run;
+use frames::count::frames_in;
+use frames::count::whole_frames;
 
-// What a block answers: how many samples were written, or why it was refused.
+// What a block answers: how many frames were written, or why it was refused.
 pub enum Blocked {
     Written(usize),
     Memory,
     GainCount,
     Gain,
     OutputLength,
+    PartFrame,
     TooLong,
     Sample,
 }
 
 // The samples through the lines from the position on, and the position afterwards. Everything has been judged.
-fn equalise(memory: &mut [i32], gains: &[i32], input: &[i32], output: &mut [i32], bands: usize)
-    requires { ⌜ Judged bands (now memory) (now gains) (now input) (now output) ⌝ }
+fn equalise(
+    memory: &mut [i32],
+    gains: &[i32],
+    input: &[i32],
+    output: &mut [i32],
+    bands: usize,
+    channels: usize,
+)
+    requires { ⌜ Judged bands channels (now memory) (now gains) (now input) (now output) ⌝ }
     ensures { λ _. ⌜ (now (memory .exit), now (output .exit)) ≡ equalised (now (memory .entry)) (now (gains .entry)) (now (input .entry)) ⌝ }
 {
     let size = line_length(bands);
     let from = memory[POSITION] as usize;
-    let at = run(&mut memory[HEAD..], size, from, bands, gains, input, output);
+    let at = run(
+        &mut memory[HEAD..],
+        size,
+        from,
+        bands,
+        channels,
+        gains,
+        input,
+        output,
+    );
     memory[POSITION] = at as i32;
 }
 
-// The call on an accepted memory of `bands` bands. All is judged before anything is written.
+// The call on an accepted memory of `bands` bands and `channels` channels. All is judged before anything is written.
 fn block_of(
     memory: &mut [i32],
     gains: &[i32],
     input: &[i32],
     output: &mut [i32],
     bands: usize,
+    channels: usize,
 ) -> Blocked
-    requires { ⌜ KeptBands bands (now memory) ⌝ }
+    requires { ⌜ KeptCounts bands channels (now memory) ⌝ }
     ensures { λ r. ⌜ Done (blockOf (now (memory .entry)) (now (gains .entry)) (now (input .entry)) (now (output .entry))) r (now (memory .exit), now (output .exit)) ⌝ }
 {
     if gains.len() != bands {
@@ -57,22 +77,26 @@ fn block_of(
     if output.len() != input.len() {
         return Blocked::OutputLength;
     }
-    if BLOCK_LIMIT < input.len() {
+    if !whole_frames(input.len(), channels) {
+        return Blocked::PartFrame;
+    }
+    let frames = frames_in(input.len(), channels);
+    if BLOCK_LIMIT < frames {
         return Blocked::TooLong;
     }
     if first_outside(LEAST_SAMPLE, MOST_SAMPLE, input) < input.len() {
         return Blocked::Sample;
     }
-    equalise(memory, gains, input, output, bands);
-    Blocked::Written(input.len())
+    equalise(memory, gains, input, output, bands, channels);
+    Blocked::Written(frames)
 }
 
-// Equalises a block: output sample i answers input sample i.
+// Equalises a block of frames: output frame i answers input frame i.
 pub fn block(memory: &mut [i32], gains: &[i32], input: &[i32], output: &mut [i32]) -> Blocked
     ensures { λ r. ⌜ Done (blockOf (now (memory .entry)) (now (gains .entry)) (now (input .entry)) (now (output .entry))) r (now (memory .exit), now (output .exit)) ⌝ }
 {
-    let Kept::Bands(bands) = judge(memory) else {
+    let Kept::Holds(bands, channels) = judge(memory) else {
         return Blocked::Memory;
     };
-    block_of(memory, gains, input, output, bands)
+    block_of(memory, gains, input, output, bands, channels)
 }

@@ -2,7 +2,7 @@
 use borrow.Author.Needs.{needs}
 use denote.Ref.{now}
 use Rattle.answers.proofs.Laws.{refuses-here}
-use Rattle.octave.proofs.Memories.{kept-wrong, kept-right, kept-bands}
+use Rattle.octave.proofs.Memories.{kept-wrong, kept-right, kept-bands, kept-channels}
 use Rattle.octave.proofs.block.block.Statement.{statement}
 use Rattle.octave.proofs.block.block.Tie as tie
 
@@ -15,11 +15,14 @@ block-of-requires : tie.Need-block-of-requires
 block-of-requires c κs =
     let k = c .before .before .before in
     let judge = k .before .before .judge in
-    let m = now (k .before .before .before .before .args .memory) in
+    let m = now (c .before .before .before .before .before .before .before .args .memory) in
     let bands = k .bands .given .0 .0 in
+    let channels = k .bands .given .0 .1 .0 in
+    let is = k .bands .given .1 in
     record {
-      kept = kept-right m (judge .result) (judge .ensures) bands (k .bands .given .1);
-      bands-are = kept-bands m (judge .result) (judge .ensures) bands (k .bands .given .1);
+      kept = kept-right m (judge .result) (judge .ensures) bands channels is;
+      bands-are = kept-bands m (judge .result) (judge .ensures) bands channels is;
+      channels-are = kept-channels m (judge .result) (judge .ensures) bands channels is;
     }
 
 pub block-spec : {M : Type 1} → statement M

@@ -12,13 +12,15 @@ use mir.Val.{SFits}
 use mir.Facts.{toZ-ofZ, fits-natAbs}
 use Rattle.whole.proofs.Rounded.{raw}
 use Rattle.octave.specs.Memory.{heldIn}
-use Rattle.octave.proofs.Memories.{not-negative, Accepted, accepted-is}
-use Rattle.octave.proofs.Blocking.{allowed-gains, region-is, from-inside, position-small, equalised-is}
+use Rattle.octave.proofs.Memories.{not-negative, Accepted, accepted-is, bands-few}
+use Rattle.octave.proofs.Blocking.{allowed-gains, sides-are, from-inside, position-small, equalised-is}
 use Rattle.octave.proofs.block.equalise.Statement.{statement}
 use Rattle.octave.proofs.block.equalise.Tie as tie
 
-memory-kept : (c : tie.Start) → Accepted (now (c .args .memory)) (c .args .bands)
-memory-kept c = accepted-is (now (c .args .memory)) (c .args .bands) (c .pre .memory-kept .kept) (c .pre .memory-kept .bands-are)
+memory-kept : (c : tie.Start) → Accepted (now (c .args .memory)) (c .args .bands) (c .args .channels)
+memory-kept c =
+    let k = c .pre .memory-kept in
+    accepted-is (now (c .args .memory)) (c .args .bands) (c .args .channels) (k .kept) (k .bands-are) (k .channels-are)
 
 at-fits : (c : tie.After-from) → SFits w32 (heldIn (now (c .before .before .args .memory)) .position)
 at-fits c = sfits-of (c .from .given)
@@ -27,9 +29,7 @@ from-is : (c : tie.After-from) → let m = now (c .before .before .args .memory)
 from-is c = ap natAbs (toZ-ofZ (at-fits c))
 
 line-length-requires : tie.Need-line-length-requires
-line-length-requires c κs =
-    let a = memory-kept c in
-    (omega (arith, a .count .least, a .bands-are), omega (arith, a .count .most, a .bands-are))
+line-length-requires c κs = bands-few (memory-kept c)
 
 slice-copy-out-from : tie.Need-slice-copy-out-from
 slice-copy-out-from c = omega (arith, memory-kept (c .before) .long)
@@ -51,10 +51,9 @@ run-requires c κs =
     let a = s .args in
     let m = now (a .memory) in
     let size = c .before .before .before .line-length in (
-      region-is (memory-kept s) (size .ensures) (from-is (c .before .before)),
+      sides-are (memory-kept s) (size .ensures) (from-is (c .before .before)) (s .pre .alike) (s .pre .whole),
       from-inside (memory-kept s) (size .ensures) (from-is (c .before .before)),
       allowed-gains (now (a .gains)) (s .pre .counted) (s .pre .allowed),
-      s .pre .alike,
     )
 
 cast-memory : tie.Need-cast-memory
@@ -75,8 +74,8 @@ slice-set-from-memory c =
     let s = c .before .before .before .before .before .before .before in
     let m = now (s .args .memory) in
     let run = c .before .before .run in
-    let long : length (putMid 2 (length m - 2) m (run .last .0)) ≡ length m = same-len-mid 2 (length m - 2) m (run .last .0) (run .kept .0) in
-    subst (λ (k : ℕ). 1 < k) (sym long) (omega (arith, memory-kept s .long))
+    let long : length (putMid 3 (length m - 3) m (run .last .0)) ≡ length m = same-len-mid 3 (length m - 3) m (run .last .0) (run .kept .0) in
+    subst (λ (k : ℕ). 2 < k) (sym long) (omega (arith, memory-kept s .long))
 
 returns : tie.Need-returns
 returns c =

@@ -1,73 +1,51 @@
 -- `memory::judge` meets its contract: each return has the tests that led there. Assumes nothing.
-use mathlib.Core.Path.{_≡_, refl, ap, _∙_}
+use mathlib.Core.Path.{_≡_, ap}
 use mathlib.Core.Bool.{true, false}
-use mathlib.Core.List.{List, [], _∷_}
+use mathlib.Core.List.{List}
 use native.Mathlib.Omega.{arith}
 use borrow.Author.Needs.{needs, sfits-of}
-use borrow.Author.Tests.{not-true, not-false, lt-ltb, le-ltb}
-use lib.ListN.{length, getD}
+use borrow.Author.Tests.{not-true, not-false}
+use lib.ListN.{getD}
 use lib.IntN.{ℤ, pos, natAbs}
-use lib.Signed.{ltZ}
 use denote.Ref.{now}
 use mir.Syntax.{w32}
 use mir.Val.{SFits}
-use mir.Facts.{toZ-ofZ, fits-natAbs}
-use Rattle.answers.specs.Unit.{fewestBands, mostBands}
-use Rattle.answers.proofs.Laws.{chosen-here, chosen-on, chosen-last}
-use Rattle.answers.proofs.Branches.{branches, within-is}
-use Rattle.octave.specs.declared.memory.Kept.the-variants.{Bands}
-use Rattle.octave.specs.Memory.{lineLength, memoryLength, countAllowed, bandsIn, heldIn, positionWithin}
-use Rattle.octave.proofs.Ranges.{Count, count-of}
-use Rattle.octave.proofs.Memories.{not-negative}
+use mir.Facts.{toZ-ofZ}
+use Rattle.answers.specs.Unit.{fewestBands, mostBands, fewestChannels, mostChannels}
+use Rattle.answers.proofs.Laws.{chosen-here, chosen-on}
+use Rattle.answers.proofs.Branches.{within-is}
+use Rattle.octave.specs.Memory.{countAllowed, channelsAllowed}
+use Rattle.octave.proofs.Ranges.{bands-of, channels-of}
+use Rattle.octave.proofs.Memories.{too-short}
 use Rattle.octave.proofs.memory.judge.Statement.{statement}
 use Rattle.octave.proofs.memory.judge.Tie as tie
 
--- ---- what is known once the count is allowed, the length right, the position not negative
+-- ---- the counts
 
 the : tie.Else2 → List ℤ
 the c = now (c .before .before .before .before .args .memory)
 
-count-fits : (c : tie.Else2) → SFits w32 (getD (the c) 0 (pos 0))
+bands-fit : (c : tie.Else2) → SFits w32 (getD (the c) 0 (pos 0))
 unfolding the
-count-fits c = sfits-of (c .before .before .bands .given)
+bands-fit c = sfits-of (c .before .before .bands .given)
 
-allowed : (c : tie.Else2) → countAllowed (getD (the c) 0 (pos 0)) ≡ true
+bands-allowed : (c : tie.Else2) → countAllowed (getD (the c) 0 (pos 0)) ≡ true
 unfolding the
-allowed c = within-is fewestBands mostBands (count-fits c) (c .before .within .ensures) (not-false (c .before .within .result) (c .if2 .left))
+bands-allowed c = within-is fewestBands mostBands (bands-fit c) (c .before .within .ensures) (not-false (c .before .within .result) (c .if2 .left))
 
-counted : (c : tie.Else2) → Count (getD (the c) 0 (pos 0))
-counted c = count-of (getD (the c) 0 (pos 0)) (allowed c)
-
-length-is : (c : tie.After-whole-length) → c .whole-length .result ≡ memoryLength (natAbs (getD (the (c .before)) 0 (pos 0)))
+channels-fit : (c : tie.Else3) → SFits w32 (getD (the (c .before .before .before)) 1 (pos 0))
 unfolding the
-length-is c = c .whole-length .ensures ∙ ap (λ (z : ℤ). memoryLength (natAbs z)) (toZ-ofZ (count-fits (c .before)))
+channels-fit c = sfits-of (c .before .before .channels .given)
 
-right : (c : tie.Else3) → length (the (c .before .before)) ≡ memoryLength (natAbs (getD (the (c .before .before)) 0 (pos 0)))
+channels-allowed : (c : tie.Else3) → channelsAllowed (getD (the (c .before .before .before)) 1 (pos 0)) ≡ true
 unfolding the
-right c = c .if3 .left ∙ length-is (c .before)
-
-at-fits : (c : tie.After-at) → SFits w32 (getD (the (c .before .before .before)) 1 (pos 0))
-unfolding the
-at-fits c = sfits-of (c .at .given)
-
-not-below : (c : tie.Else4) → ltZ (getD (the (c .before .before .before .before)) 1 (pos 0)) (pos 0) ≡ false
-unfolding the
-not-below c = rw (toZ-ofZ (at-fits (c .before))) at (c .if4 .left)
-
-size-is : (c : tie.After-line-length) → c .line-length .result ≡ lineLength (natAbs (getD (the (c .before .before .before .before .before)) 0 (pos 0)))
-unfolding the
-size-is c =
-    c .line-length .ensures ∙ ap (λ (z : ℤ). lineLength (natAbs z)) (toZ-ofZ (count-fits (c .before .before .before .before .before)))
+channels-allowed c =
+    within-is fewestChannels mostChannels (channels-fit c) (c .before .within2 .ensures) (not-false (c .before .within2 .result) (c .if3 .left))
 
 -- ---- the needs
 
--- a memory with no place has no count
-none-allowed : (m : List ℤ) → length m ≡ 0 → countAllowed (getD m 0 (pos 0)) ≡ false
-none-allowed [] e = refl
-none-allowed (x ∷ m) e = absurd (omega arith)
-
 returns : tie.Need-returns
-returns c = let e = none-allowed (now (c .before .args .memory)) (c .if1 .taken) in search (chosen-here, branches) depth 12
+returns c = too-short (now (c .before .args .memory)) (c .if1 .taken)
 
 returns-2 : tie.Need-returns-2
 returns-2 c =
@@ -76,68 +54,36 @@ returns-2 c =
     within-is fewestBands mostBands {z = getD m 0 (pos 0)} (sfits-of (c .before .before .bands .given)) (c .before .within .ensures) (not-true (c .before .within .result) (c .if2 .taken)) in
     search chosen-here depth 12
 
-cast-count : tie.Need-cast-count
-unfolding the
-cast-count c = rw (toZ-ofZ (count-fits c)) (counted c .not-negative, record { fits = omega (arith, counted c .most) })
-
-whole-length-requires : tie.Need-whole-length-requires
-unfolding the
-whole-length-requires c κs = rw (toZ-ofZ (count-fits c)) (counted c .least, counted c .most)
-
 returns-3 : tie.Need-returns-3
 unfolding the
 returns-3 c =
-    let e = allowed (c .before .before) in
-    let l = length-is (c .before) in
-    search (chosen-here, chosen-on, branches) depth 12
+    let m = the (c .before .before .before) in
+    let a = bands-allowed (c .before .before .before) in
+    let e : channelsAllowed (getD m 1 (pos 0)) ≡ false =
+    within-is fewestChannels mostChannels {z = getD m 1 (pos 0)} (sfits-of (c .before .before .channels .given)) (c .before .within2 .ensures) (not-true (c .before .within2 .result) (c .if3 .taken)) in
+    search (chosen-here, chosen-on) depth 12
 
-shared-slice-copy-out-at : tie.Need-shared-slice-copy-out-at
+cast-bands : tie.Need-cast-judge-places
 unfolding the
-shared-slice-copy-out-at c = omega (arith, right c)
+cast-bands c =
+    let n = bands-of (getD (the (c .before .before .before)) 0 (pos 0)) (bands-allowed (c .before .before .before)) in
+    rw (toZ-ofZ (bands-fit (c .before .before .before))) (n .not-negative, record { fits = omega (arith, n .to) })
 
-returns-4 : tie.Need-returns-4
+cast-channels : tie.Need-cast-judge-places-2
 unfolding the
-returns-4 c =
-    let m = the (c .before .before .before .before) in
-    let outside : positionWithin (lineLength (bandsIn m)) (heldIn m .position) ≡ false = rw (rw (toZ-ofZ (at-fits (c .before))) at (c .if4 .taken)) in
-    let e = allowed (c .before .before .before .before) in
-    let l = right (c .before .before) in
-    search (chosen-here, chosen-on, branches) depth 12
+cast-channels c =
+    let n = channels-of (getD (the (c .before .before .before)) 1 (pos 0)) (channels-allowed c) in
+    rw (toZ-ofZ (channels-fit c)) (n .not-negative, record { fits = omega (arith, n .to) })
 
-line-length-requires : tie.Need-line-length-requires
+judge-places-requires : tie.Need-judge-places-requires
 unfolding the
-line-length-requires c κs =
-    let e = c .before .before .before .before in
-    rw (toZ-ofZ (count-fits e)) (counted e .least, counted e .most)
-
-cast-if5 : tie.Need-cast-if5
-unfolding the
-cast-if5 c =
-    let f = at-fits (c .before .before) in
-    rw (toZ-ofZ f) (not-negative (heldIn (the (c .before .before .before .before .before)) .position) (not-below (c .before)), fits-natAbs tt f)
-
-returns-5 : tie.Need-returns-5
-unfolding the
-returns-5 c =
-    let m = the (c .before .before .before .before .before .before) in
-    let past = rw (toZ-ofZ (at-fits (c .before .before .before)), size-is (c .before)) at (c .if5 .taken) in
-    let outside : positionWithin (lineLength (bandsIn m)) (heldIn m .position) ≡ false =
-    rw (not-below (c .before .before), le-ltb (natAbs (heldIn m .position)) (lineLength (bandsIn m)) past) in
-    let e = allowed (c .before .before .before .before .before .before) in
-    let l = right (c .before .before .before .before) in
-    search (chosen-here, chosen-on, branches) depth 12
-
-returns-6 : tie.Need-returns-6
-unfolding the
-returns-6 c =
-    let m = the (c .before .before .before .before .before .before) in
-    let inside = rw (toZ-ofZ (at-fits (c .before .before .before)), size-is (c .before)) at (c .if5 .left) in
-    let within : positionWithin (lineLength (bandsIn m)) (heldIn m .position) ≡ true =
-    rw (not-below (c .before .before), lt-ltb (natAbs (heldIn m .position)) (lineLength (bandsIn m)) inside) in
-    let e = allowed (c .before .before .before .before .before .before) in
-    let l = right (c .before .before .before .before) in
-    let is = ap (λ (z : ℤ). Bands (natAbs z)) (toZ-ofZ (count-fits (c .before .before .before .before .before .before))) in
-    search (chosen-on, chosen-last, branches) depth 12
+judge-places-requires c κs =
+    record {
+      bands-allowed = bands-allowed (c .before .before .before);
+      channels-allowed = channels-allowed c;
+      bands-are = ap natAbs (toZ-ofZ (bands-fit (c .before .before .before)));
+      channels-are = ap natAbs (toZ-ofZ (channels-fit c));
+    }
 
 pub judge-spec : {M : Type 1} → statement M
 judge-spec =
@@ -147,12 +93,10 @@ judge-spec =
     (λ c. search needs)
     (λ c κs. search needs)
     returns-2
-    cast-count
-    whole-length-requires
+    (λ c. search needs)
+    (λ c κs. search needs)
     returns-3
-    shared-slice-copy-out-at
-    returns-4
-    line-length-requires
-    cast-if5
-    returns-5
-    returns-6)
+    cast-bands
+    cast-channels
+    judge-places-requires
+    (λ c. search needs))
