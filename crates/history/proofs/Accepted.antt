@@ -21,7 +21,7 @@ use Rattle.tree.proofs.NeverLimited.{published-low-pass-never-limited}
 use Rattle.octave.specs.declared.block.Blocked.{Blocked}
 use Rattle.octave.specs.declared.block.Blocked.the-variants.{Written}
 use Rattle.octave.specs.Answer.{blockAnswer}
-use Rattle.octave.specs.Block.{blockChecks, equalised, blockOf}
+use Rattle.octave.specs.Block.{framesOf, blockChecks, equalised, blockOf}
 use Rattle.octave.proofs.Ranges.{within-parts}
 use Rattle.history.specs.History.{Call, afterCall, AllAccepted, joined}
 use Rattle.history.proofs.Holds.{Unlimited, Free, free-of}
@@ -32,9 +32,10 @@ all-refuse : (m gains input before : List ℤ) → allRefuse blockAnswer (blockC
 unfolding allRefuse
 all-refuse m gains input before = refl
 
--- an accepted call ran its samples; they and its gains were in range
+-- an accepted call ran its samples: every check held
 pub record RanIt (m gains input before : List ℤ) : Type 0 where
-  pub is : blockOf m gains input before ≡ record { result = Written (length input); lent = equalised m gains input }
+  pub is : blockOf m gains input before ≡ record { result = Written (framesOf m input); lent = equalised m gains input }
+  pub held : allHold (blockChecks m gains input before) ≡ true
   pub gains-allowed : allWithin (pos 0) (pos largestGain) gains ≡ true
   pub in-range : allWithin leastSample mostSample input ≡ true
 
@@ -51,11 +52,11 @@ module _ (m gains input before : List ℤ) where
   unnumbered-ran e =
       let cs = blockChecks m gains input before in
       let after = equalised m gains input in
-      let r = Written (length input) in
+      let r = Written (framesOf m input) in
       let held : allHold cs ≡ true =
       unnumbered-holds blockAnswer cs r (all-refuse m gains input before)
       (sym (ap (λ (q : Blocked). numberIn (blockAnswer q)) (decided (m, before) after r cs)) ∙ e) in
-      record { is = all-accept (m, before) after r cs held; gains-allowed = gains-held held; in-range = input-held held }
+      record { is = all-accept (m, before) after r cs held; held = held; gains-allowed = gains-held held; in-range = input-held held }
 
   pub accepted-ran : (k : ℕ) → blockAnswer (blockOf m gains input before .result) ≡ accepted k → RanIt m gains input before
   accepted-ran k e = unnumbered-ran (ap numberIn e)
@@ -84,7 +85,7 @@ unfolding AllAccepted joined
 samples-small m [] a k = omega arith
 samples-small m (c ∷ cs) a k =
     append-small (c .input) (joined cs)
-    (all-small (c .input) (accepted-ran m (c .gains) (c .input) (c .before) (length (c .input)) (a .0) .in-range))
+    (all-small (c .input) (accepted-ran m (c .gains) (c .input) (c .before) (framesOf m (c .input)) (a .0) .in-range))
     (samples-small (afterCall m c) cs (a .1)) k
 
 pub free-always : (x : Signal) → ((k : ℕ) → natAbs (x k) ≤ largestSample) → (k n : ℕ) → k ≤ 9 → Free published x k 0 n

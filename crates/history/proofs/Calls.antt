@@ -18,9 +18,9 @@ use Rattle.ring.proofs.Places.{published-centred}
 use Rattle.lines.specs.Helpers.{Region}
 use Rattle.octave.specs.declared.block.Blocked.{Blocked}
 use Rattle.octave.specs.Answer.{blockAnswer}
-use Rattle.octave.specs.Memory.{lineLength, memoryOf, prepared}
+use Rattle.octave.specs.Memory.{lineLength, sidePlaces, memoryOf, prepared}
 use Rattle.weighing.specs.Weighing.{outputs}
-use Rattle.octave.specs.Block.{equalised}
+use Rattle.octave.specs.Block.{framesOf, equalised}
 use Rattle.octave.proofs.Layouts.{line-small}
 use Rattle.history.specs.History.{Call, called, from}
 use Rattle.history.proofs.Holds.{Holds, Free, holds-none}
@@ -28,6 +28,7 @@ use Rattle.history.proofs.From.{from-ext}
 use Rattle.history.proofs.Samples.{run-keeps}
 use Rattle.history.proofs.Weighed.{output-ext, run-outputs}
 use Rattle.history.proofs.Accepted.{accepted-ran}
+use Rattle.history.proofs.OneChannel.{one-channel-block}
 
 -- ---- a memory that holds a history
 
@@ -36,11 +37,11 @@ module _ (p : Prototype) (M : ℕ) where
   abbrev ring : ℕ
   ring = p .centre * 2 ^ (M - 1)
 
-  -- the count, the position, and lines that hold the first n samples of x
+  -- the counts, one channel, the position, and lines that hold the first n samples of x
   pub record State (x : Signal) (n : ℕ) (m : List ℤ) : Type 0 where
     pub at : ℕ
     pub lines : List ℤ
-    pub memory-is : m ≡ memoryOf (record { count = pos M; position = pos at; lines = lines })
+    pub memory-is : m ≡ memoryOf (record { count = pos M; channels = pos 1; position = pos at; lines = lines })
     pub inside : at < ring
     pub region : Region p M ring 1 lines
     pub holds : Holds p x (M - 1) 0 ring at lines n
@@ -54,7 +55,7 @@ module _ (p : Prototype) (M : ℕ) where
   pub samples-keep : Centred p → (x : Signal) (n : ℕ) (m input : List ℤ) → 1 ≤ M → ((k : ℕ) → Free p x (M - 1) 0 k) → (s : State x n m) →
       ((i : ℕ) → i < length input → getD input i (pos 0) ≡ x (n + i)) → (g : ℕ → ℕ → ℤ) →
       (let r = run p ring (M - 1) (s .at) (s .lines) input in
-      Called x n g input (memoryOf (record { count = pos M; position = pos (r .position); lines = r .places })) (outputs (λ i. g (n + i)) (r .aligned)))
+      Called x n g input (memoryOf (record { count = pos M; channels = pos 1; position = pos (r .position); lines = r .places })) (outputs (λ i. g (n + i)) (r .aligned)))
   samples-keep is x n m input l free s e g =
       let whole : suc (M - 1) ≡ M = omega arith in
       let r = run p ring (M - 1) (s .at) (s .lines) input in
@@ -76,9 +77,9 @@ module _ (p : Prototype) (M : ℕ) where
       }
 
 -- prepared memory holds the empty history
-pub prepared-holds : (M : ℕ) (x : Signal) → 2 ≤ M → M ≤ 10 → State published M x 0 (prepared M)
+pub prepared-holds : (M : ℕ) (x : Signal) → 2 ≤ M → M ≤ 10 → State published M x 0 (prepared M 1)
 prepared-holds M x l h =
-    let k = (M - 1) * lineLength M in
+    let k = 1 * sidePlaces M in
     record {
       at = 0;
       lines = replicate k (pos 0);
@@ -90,7 +91,7 @@ prepared-holds M x l h =
             few = h;
             stretch = omega arith;
             sized = ap (λ (j : ℕ). 9 * j) (sym (one-mul (2 ^ (M - 1))));
-            whole = length-replicate k (pos 0);
+            whole = length-replicate k (pos 0) ∙ one-mul (sidePlaces M);
             small = line-small M h;
           };
       holds = holds-none published x (M - 1) 0 (lineLength M) (replicate k (pos 0)) (zeros k);
@@ -105,7 +106,7 @@ prepared-holds M x l h =
 
 -- for any gains g of each sample that are the call's
 pub call-keeps : (M : ℕ) (x : Signal) (n : ℕ) (m : List ℤ) (c : Call) → 2 ≤ M → ((k : ℕ) → Free published x (M - 1) 0 k) →
-    State published M x n m → blockAnswer (called m c .result) ≡ accepted (length (c .input)) →
+    State published M x n m → blockAnswer (called m c .result) ≡ accepted (framesOf m (c .input)) →
     ((i : ℕ) → i < length (c .input) → getD (c .input) i (pos 0) ≡ x (n + i)) →
     (g : ℕ → ℕ → ℤ) → ((i : ℕ) → n ≤ i → i < n + length (c .input) → (j : ℕ) → gainOf (c .gains) j ≡ g i j) →
     Called published M x n g (c .input) (called m c .lent .0) (called m c .lent .1)
@@ -114,10 +115,10 @@ call-keeps M x n m c l free s a e g agree =
     let input = c .input in
     let k = samples-keep published M published-centred x n m input (omega arith) free s e (λ _. gainOf gains) in
     let r = run published (lineLength M) (M - 1) (s .at) (s .lines) input in
-    let after = memoryOf (record { count = pos M; position = pos (r .position); lines = r .places }) in
+    let after = memoryOf (record { count = pos M; channels = pos 1; position = pos (r .position); lines = r .places }) in
     let is : called m c .lent ≡ (after, outputs (λ _. gainOf gains) (r .aligned)) =
-    ap (λ (o : Outcome Blocked (List ℤ × List ℤ)). o .lent) (accepted-ran m gains input (c .before) (length input) a .is) ∙
-    ap (λ (q : List ℤ). equalised q gains input) (s .memory-is) in
+    ap (λ (o : Outcome Blocked (List ℤ × List ℤ)). o .lent) (accepted-ran m gains input (c .before) (framesOf m input) a .is) ∙
+    ap (λ (q : List ℤ). equalised q gains input) (s .memory-is) ∙ one-channel-block M (s .at) (s .lines) gains input (s .region .whole) in
     subst (λ (t : List ℤ × List ℤ). Called published M x n g input (t .0) (t .1)) (sym is)
     (record {
       outputs-are = k .outputs-are ∙ from-ext n (length input) (λ i u v. output-ext published M (λ _. gainOf gains) g x i (agree i u v));

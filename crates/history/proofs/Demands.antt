@@ -25,6 +25,7 @@ use Rattle.tree.proofs.NeverLimited.{reach, published-reach, published-low-pass
 use Rattle.tree.proofs.NoCrack.{above-stays-above, below-stays-below}
 use Rattle.answers.specs.Range.{allWithin}
 use Rattle.octave.specs.Memory.{prepared}
+use Rattle.octave.specs.Block.{framesOf}
 use Rattle.history.specs.History.{Call, afterCall, AllAccepted, joined, carried, written, exact}
 use Rattle.octave.proofs.Ranges.{within-parts}
 use Rattle.history.proofs.Accepted.{accepted-ran, samples-small}
@@ -51,7 +52,7 @@ carried-allowed m (c ∷ cs) a n h k = by (decLt n (length (c .input))) (λ l. c
         IsGain (carried (c ∷ cs) n k)
     by (yes l) rest =
         subst IsGain (sym (carried-here c cs n k l))
-        (gain-is (c .gains) (accepted-ran m (c .gains) (c .input) (c .before) (length (c .input)) (a .0) .gains-allowed) k)
+        (gain-is (c .gains) (accepted-ran m (c .gains) (c .input) (c .before) (framesOf m (c .input)) (a .0) .gains-allowed) k)
     by (no q) rest = subst IsGain (sym (carried-later c cs n k (omega arith))) (rest (omega (arith, length-append (c .input) (joined cs))))
 
 -- ---- the 32-bit limit
@@ -69,12 +70,12 @@ module _ (m : List ℤ) (cs : List Call) (all : AllAccepted m cs) (n : ℕ) wher
 
 -- ---- the demands, for the output at n of accepted calls from prepared memory
 
-module _ (M : ℕ) (least : 2 ≤ M) (most : M ≤ 10) (cs : List Call) (all : AllAccepted (prepared M) cs) (n : ℕ) (inside : n < length (joined cs)) where
+module _ (M : ℕ) (least : 2 ≤ M) (most : M ≤ 10) (cs : List Call) (all : AllAccepted (prepared M 1) cs) (n : ℕ) (inside : n < length (joined cs)) where
   is : written M cs n ≡ output published M (carried cs) (signalOf (joined cs)) n
   is = output-at M least most cs all n inside
 
   allowed : AllowedGains M (carried cs) n
-  allowed m _ _ = carried-allowed (prepared M) cs all n inside m
+  allowed m _ _ = carried-allowed (prepared M 1) cs all n inside m
 
   -- rule 11.5: |4,096·P·(output - exact output)| ≤ 2,048·P + slack
   pub written-near : natAbs (pos (unity * commonScale M) *ℤ written M cs n -ℤ exact M cs n) ≤ 2048 * commonScale M + slack published M (carried cs) n

@@ -19,7 +19,7 @@ use Rattle.octave.specs.declared.block.Blocked.{Blocked}
 use Rattle.octave.specs.declared.block.Blocked.the-variants.{Written}
 use Rattle.octave.specs.Answer.{blockAnswer}
 use Rattle.octave.specs.Memory.{prepared}
-use Rattle.octave.specs.Block.{blockChecks, equalised}
+use Rattle.octave.specs.Block.{framesOf, blockChecks, equalised}
 use Rattle.history.specs.History.{Call, called, afterCall, isAccepted, Played, played, acceptedOf, AllAccepted, joined, carried, from, written, exact}
 use Rattle.history.proofs.Accepted.{unnumbered-ran}
 use Rattle.history.proofs.WholeHistory.{whole-history}
@@ -27,8 +27,8 @@ use Rattle.history.proofs.Demands.{written-near}
 
 -- ---- one call
 
--- an accepted call answers its block length
-accepted-length : (m : List ℤ) (c : Call) → isAccepted m c ≡ true → blockAnswer (called m c .result) ≡ accepted (length (c .input))
+-- an accepted call answers the number of its frames
+accepted-length : (m : List ℤ) (c : Call) → isAccepted m c ≡ true → blockAnswer (called m c .result) ≡ accepted (framesOf m (c .input))
 accepted-length m c e =
     ap (λ (o : Outcome Blocked (List ℤ × List ℤ)). blockAnswer (o .result))
     (unnumbered-ran m (c .gains) (c .input) (c .before) (eqb-true (numberIn (blockAnswer (called m c .result))) 0 e) .is)
@@ -37,7 +37,7 @@ accepted-length m c e =
 refused-memory : (m : List ℤ) (c : Call) → isAccepted m c ≡ false → afterCall m c ≡ m
 refused-memory m c e =
     ap (λ (l : List ℤ × List ℤ). l .0)
-    (refused-keeps blockAnswer (blockChecks m (c .gains) (c .input) (c .before)) (m, c .before) (equalised m (c .gains) (c .input)) (Written (length (c .input)))
+    (refused-keeps blockAnswer (blockChecks m (c .gains) (c .input) (c .before)) (m, c .before) (equalised m (c .gains) (c .input)) (Written (framesOf m (c .input)))
     (eqb-false (numberIn (blockAnswer (called m c .result))) 0 e) refl)
 
 -- ---- any calls
@@ -72,12 +72,12 @@ refused-between m (c ∷ cs) = by (isAccepted m c) refl (refused-between (afterC
 
 module _ (M : ℕ) (least : 2 ≤ M) (most : M ≤ 10) (cs : List Call) where
   abbrev taken : List Call
-  taken = acceptedOf (prepared M) cs
+  taken = acceptedOf (prepared M 1) cs
 
   -- the outputs of the accepted ones are the tree's for their samples
-  pub history-of-any : played (prepared M) cs .output ≡ from 0 (length (joined taken)) (output published M (carried taken) (signalOf (joined taken)))
+  pub history-of-any : played (prepared M 1) cs .output ≡ from 0 (length (joined taken)) (output published M (carried taken) (signalOf (joined taken)))
   history-of-any =
-      ap (λ (p : Played). p .output) (refused-between (prepared M) cs) ∙ whole-history M least most taken (all-accepted (prepared M) cs)
+      ap (λ (p : Played). p .output) (refused-between (prepared M 1) cs) ∙ whole-history M least most taken (all-accepted (prepared M 1) cs)
 
   -- .. each within the distance of rule 4.9
   pub near-of-any : (n : ℕ) → n < length (joined taken) →
@@ -85,4 +85,4 @@ module _ (M : ℕ) (least : 2 ≤ M) (most : M ≤ 10) (cs : List Call) where
   near-of-any n inside =
       subst
       (λ (p : Played). natAbs (pos (unity * commonScale M) *ℤ getD (p .output) n (pos 0) -ℤ exact M taken n) ≤ 2048 * commonScale M + slack published M (carried taken) n)
-      (sym (refused-between (prepared M) cs)) (written-near M least most taken (all-accepted (prepared M) cs) n inside)
+      (sym (refused-between (prepared M 1) cs)) (written-near M least most taken (all-accepted (prepared M 1) cs) n inside)

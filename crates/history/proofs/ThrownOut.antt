@@ -5,7 +5,7 @@ use mathlib.Core.List.{List, [], _∷_}
 use Prim.Native.Nat.{ℕ, zero, suc, _*_, _≤_}
 use native.Mathlib.Omega.{arith}
 use lib.Dec.{lit≤}
-use lib.ListN.{length, getD}
+use lib.ListN.{getD}
 use lib.IntN.{ℤ, pos, natAbs, _-ℤ_, _*ℤ_}
 use lib.Signed.{leZ-yes}
 use Rattle.whole.specs.Sum.{sum}
@@ -20,12 +20,13 @@ use Rattle.answers.specs.Checks.{allHold, Outcome, decide, Done}
 use Rattle.answers.specs.Range.{firstOutside}
 use Rattle.ring.specs.Line.{tap, lineSum, lowValue, lateValue}
 use Rattle.lines.specs.Cascade.{step, run}
+use Rattle.frames.specs.Frames.{side, frame, woven, behind}
 use Rattle.octave.specs.declared.block.Blocked.{Blocked}
 use Rattle.octave.specs.declared.block.Blocked.the-variants.{Written}
 use Rattle.octave.specs.Answer.{blockAnswer}
 use Rattle.octave.specs.Memory.{prepared}
 use Rattle.weighing.specs.Weighing.{bandSum, outputs}
-use Rattle.octave.specs.Block.{blockOf}
+use Rattle.octave.specs.Block.{framesOf, blockOf}
 use Rattle.history.proofs.Accepted.{accepted-ran}
 
 -- the low band alone, and the high band alone
@@ -37,8 +38,8 @@ high-alone = pos 0 ∷ pos unity ∷ []
 
 -- ---- refuse everything: a call without a fault is not refused
 
-pub refuse-everything : (r : Blocked) (l : List ℤ × List ℤ) → (numberIn (blockAnswer r) ≡ 0 → ⊥) → Done (blockOf (prepared 2) low-alone [] []) r l → ⊥
-unfolding decide allHold firstOutside run
+pub refuse-everything : (r : Blocked) (l : List ℤ × List ℤ) → (numberIn (blockAnswer r) ≡ 0 → ⊥) → Done (blockOf (prepared 2 1) low-alone [] []) r l → ⊥
+unfolding decide allHold firstOutside run side woven frame behind
 refuse-everything r l n d = n (ap (λ (q : Blocked). numberIn (blockAnswer q)) (d .result-is))
 
 -- ---- all zeros, or the delayed input for any gains: unequal gains tell them
@@ -77,26 +78,26 @@ delayed-input near =
 
 -- ---- touch nothing: the first output of 100,000 is 313, and not what the output block held
 
-pub touch-nothing : Done (blockOf (prepared 2) low-alone (pos 100000 ∷ []) (pos 0 ∷ [])) (Written 1) (prepared 2, pos 0 ∷ []) → ⊥
-unfolding decide allHold firstOutside run step lowValue lateValue lineSum tap sum outputs bandSum
+pub touch-nothing : Done (blockOf (prepared 2 1) low-alone (pos 100000 ∷ []) (pos 0 ∷ [])) (Written 1) (prepared 2 1, pos 0 ∷ []) → ⊥
+unfolding decide allHold firstOutside run step lowValue lateValue lineSum tap sum outputs bandSum side woven frame behind
 touch-nothing d = let h : _≡_ {A = ℕ} 0 313 = ap (λ (l : List ℤ × List ℤ). natAbs (getD (l .1) 0 (pos 0))) (d .lent-is) in omega arith
 
 -- ---- filter the first block, then pass samples through: silence after 100,000 is answered by -1,338 at 2
 
 -- the memory after the first block
 abbrev filtered : List ℤ
-filtered = blockOf (prepared 2) low-alone (pos 100000 ∷ []) (pos 0 ∷ []) .lent .0
+filtered = blockOf (prepared 2 1) low-alone (pos 100000 ∷ []) (pos 0 ∷ []) .lent .0
 
 pub pass-through : (m : List ℤ) → Done (blockOf filtered low-alone (pos 0 ∷ pos 0 ∷ []) (pos 0 ∷ pos 0 ∷ [])) (Written 2) (m, pos 0 ∷ pos 0 ∷ []) → ⊥
-unfolding decide allHold firstOutside run step lowValue lateValue lineSum tap sum outputs bandSum
+unfolding decide allHold firstOutside run step lowValue lateValue lineSum tap sum outputs bandSum side woven frame behind
 pass-through m d = let h : _≡_ {A = ℕ} 0 1338 = ap (λ (l : List ℤ × List ℤ). natAbs (getD (l .1) 1 (pos 0))) (d .lent-is) in omega arith
 
--- ---- invent the number of samples written: it is the block length, for all inputs
+-- ---- invent the number of frames written: it is that of the block, for all inputs
 
-pub invent-the-number : (memory gains input output : List ℤ) (r : Blocked) (l : List ℤ × List ℤ) (k : ℕ) → (k ≡ length input → ⊥) → blockAnswer r ≡ accepted k →
+pub invent-the-number : (memory gains input output : List ℤ) (r : Blocked) (l : List ℤ × List ℤ) (k : ℕ) → (k ≡ framesOf memory input → ⊥) → blockAnswer r ≡ accepted k →
     Done (blockOf memory gains input output) r l → ⊥
 invent-the-number memory gains input output r l k n a d =
     let ran = accepted-ran memory gains input output k (sym (ap blockAnswer (d .result-is)) ∙ a) in
-    let e : accepted k ≡ accepted (length input) =
+    let e : accepted k ≡ accepted (framesOf memory input) =
     sym a ∙ ap blockAnswer (d .result-is) ∙ ap (λ (o : Outcome Blocked (List ℤ × List ℤ)). blockAnswer (o .result)) (ran .is) in
     n cc

@@ -84,42 +84,42 @@ calls-keep M x l free (c ∷ cs) m n s a e =
 
 -- ---- the theorem
 
-module _ (M : ℕ) (least : 2 ≤ M) (most : M ≤ 10) (cs : List Call) (all : AllAccepted (prepared M) cs) where
-  continued : Continued M (signalOf (joined cs)) 0 cs (played (prepared M) cs)
+module _ (M : ℕ) (least : 2 ≤ M) (most : M ≤ 10) (cs : List Call) (all : AllAccepted (prepared M 1) cs) where
+  continued : Continued M (signalOf (joined cs)) 0 cs (played (prepared M 1) cs)
   continued =
       calls-keep M (signalOf (joined cs)) least
-      (λ k. free-always (signalOf (joined cs)) (samples-small (prepared M) cs all) (M - 1) k (omega arith)) cs (prepared M) 0
+      (λ k. free-always (signalOf (joined cs)) (samples-small (prepared M 1) cs all) (M - 1) k (omega arith)) cs (prepared M 1) 0
       (prepared-holds M (signalOf (joined cs)) least most) all (λ i h. ap (signalOf (joined cs)) (sym (zero-add i)))
 
   -- the outputs joined are the tree's outputs for the joined samples, sample n under the gains of the call that carried it
-  pub whole-history : played (prepared M) cs .output ≡ from 0 (length (joined cs)) (output published M (carried cs) (signalOf (joined cs)))
+  pub whole-history : played (prepared M 1) cs .output ≡ from 0 (length (joined cs)) (output published M (carried cs) (signalOf (joined cs)))
   whole-history =
       continued .outputs-are ∙
       from-ext 0 (length (joined cs))
       (λ i _ _. output-ext published M (λ k. carried cs (k - 0)) (carried cs) (signalOf (joined cs)) i (λ m. ap (λ (k : ℕ). carried cs k m) (sub-zero i)))
 
   -- .. sample by sample
-  pub output-at : (n : ℕ) → n < length (joined cs) → getD (played (prepared M) cs .output) n (pos 0) ≡ output published M (carried cs) (signalOf (joined cs)) n
+  pub output-at : (n : ℕ) → n < length (joined cs) → getD (played (prepared M 1) cs .output) n (pos 0) ≡ output published M (carried cs) (signalOf (joined cs)) n
   output-at n h =
       ap (λ (l : List ℤ). getD l n (pos 0)) whole-history ∙ from-at 0 (length (joined cs)) (output published M (carried cs) (signalOf (joined cs))) n h ∙
       ap (output published M (carried cs) (signalOf (joined cs))) (zero-add n)
 
   -- .. and the memory holds just those samples
-  pub memory-holds : State published M (signalOf (joined cs)) (length (joined cs)) (played (prepared M) cs .memory)
+  pub memory-holds : State published M (signalOf (joined cs)) (length (joined cs)) (played (prepared M 1) cs .memory)
   memory-holds =
-      subst (λ (k : ℕ). State published M (signalOf (joined cs)) k (played (prepared M) cs .memory)) (zero-add (length (joined cs))) (continued .state)
+      subst (λ (k : ℕ). State published M (signalOf (joined cs)) k (played (prepared M 1) cs .memory)) (zero-add (length (joined cs))) (continued .state)
 
 -- two ways of cutting the same samples under the same gains give the same output and the same memory meaning
-pub cutting-alike : (M : ℕ) → 2 ≤ M → M ≤ 10 → (cs ds : List Call) → AllAccepted (prepared M) cs → AllAccepted (prepared M) ds → joined cs ≡ joined ds →
+pub cutting-alike : (M : ℕ) → 2 ≤ M → M ≤ 10 → (cs ds : List Call) → AllAccepted (prepared M 1) cs → AllAccepted (prepared M 1) ds → joined cs ≡ joined ds →
     ((n m : ℕ) → n < length (joined cs) → carried cs n m ≡ carried ds n m) →
-    (played (prepared M) cs .output ≡ played (prepared M) ds .output) ×
-    State published M (signalOf (joined ds)) (length (joined ds)) (played (prepared M) cs .memory) ×
-    State published M (signalOf (joined ds)) (length (joined ds)) (played (prepared M) ds .memory)
+    (played (prepared M 1) cs .output ≡ played (prepared M 1) ds .output) ×
+    State published M (signalOf (joined ds)) (length (joined ds)) (played (prepared M 1) cs .memory) ×
+    State published M (signalOf (joined ds)) (length (joined ds)) (played (prepared M 1) ds .memory)
 cutting-alike M l h cs ds a b e g = (
   whole-history M l h cs a ∙
       from-ext 0 (length (joined cs))
       (λ i _ q. output-ext published M (carried cs) (carried ds) (signalOf (joined cs)) i (λ m. g i m (omega (arith, zero-add (length (joined cs)))))) ∙
       ap (λ (xs : List ℤ). from 0 (length xs) (output published M (carried ds) (signalOf xs))) e ∙ sym (whole-history M l h ds b),
-  subst (λ (xs : List ℤ). State published M (signalOf xs) (length xs) (played (prepared M) cs .memory)) e (memory-holds M l h cs a),
+  subst (λ (xs : List ℤ). State published M (signalOf xs) (length xs) (played (prepared M 1) cs .memory)) e (memory-holds M l h cs a),
   memory-holds M l h ds b,
 )

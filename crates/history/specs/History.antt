@@ -2,7 +2,7 @@
 use mathlib.Core.Path.{_≡_}
 use mathlib.Core.Bool.{Bool, cond}
 use mathlib.Core.List.{List, [], _∷_, _++_}
-use Prim.Native.Nat.{ℕ, zero, suc, _+_, _-_}
+use Prim.Native.Nat.{ℕ, zero, suc, _+_, _-_, _*_}
 use lib.Dec.{eqb, ltb}
 use lib.ListN.{length, getD}
 use lib.IntN.{ℤ, pos}
@@ -13,8 +13,9 @@ use Rattle.tree.specs.Signal.{signalOf, gainOf}
 use Rattle.tree.specs.Exact.{exactOutput}
 use Rattle.octave.specs.declared.block.Blocked.{Blocked}
 use Rattle.octave.specs.Answer.{blockAnswer}
-use Rattle.octave.specs.Memory.{prepared}
-use Rattle.octave.specs.Block.{blockOf}
+use Rattle.octave.specs.Memory.{sidePlaces, heldIn, memoryOf, bandsIn, prepared}
+use Rattle.frames.specs.Frames.{sideOf, placesOf}
+use Rattle.octave.specs.Block.{framesOf, blockOf}
 
 -- rule 11.2: a block call: its gains, its samples, and what the output block held before
 pub record Call : Type 0 where
@@ -51,10 +52,10 @@ unfoldable pub acceptedOf : List ℤ → List Call → List Call
 acceptedOf m [] = []
 acceptedOf m (c ∷ cs) = cond (isAccepted m c) (c ∷ acceptedOf (afterCall m c) cs) (acceptedOf (afterCall m c) cs)
 
--- rule 11.2: every call is accepted, with its block length
+-- rule 11.2: every call is accepted, with the number of its frames
 unfoldable pub AllAccepted : List ℤ → List Call → Type 0
 AllAccepted m [] = Unit {0}
-AllAccepted m (c ∷ cs) = (blockAnswer (called m c .result) ≡ accepted (length (c .input))) × AllAccepted (afterCall m c) cs
+AllAccepted m (c ∷ cs) = (blockAnswer (called m c .result) ≡ accepted (framesOf m (c .input))) × AllAccepted (afterCall m c) cs
 
 -- rule 11.2: the samples of the calls, joined
 unfoldable pub joined : List Call → List ℤ
@@ -71,10 +72,38 @@ unfoldable pub from : {A : Type 0} → ℕ → ℕ → (ℕ → A) → List A
 from n zero f = []
 from n (suc k) f = f n ∷ from (n + 1) k f
 
--- rule 11.2: the output that was written for sample n of calls from prepared memory
+-- rule 11.2: the output that was written for sample n of calls from prepared memory of one channel
 abbrev pub written : ℕ → List Call → ℕ → ℤ
-written M cs n = getD (played (prepared M) cs .output) n (pos 0)
+written M cs n = getD (played (prepared M 1) cs .output) n (pos 0)
 
 -- rule 4.5: 4,096·P times the exact output for sample n of those calls
 abbrev pub exact : ℕ → List Call → ℕ → ℤ
 exact M cs n = exactOutput published M (carried cs) (signalOf (joined cs)) n
+
+-- ---- one side of calls
+
+-- rule 11.11: one side of a call, as a call of one channel
+abbrev pub sideCall : (channels s : ℕ) → Call → Call
+sideCall c s call = record { gains = call .gains; input = sideOf c s (call .input); before = sideOf c s (call .before) }
+
+-- rule 11.11: one side of calls
+unfoldable pub sideCalls : (channels s : ℕ) → List Call → List Call
+sideCalls c s [] = []
+sideCalls c s (call ∷ cs) = sideCall c s call ∷ sideCalls c s cs
+
+-- rule 11.11: the memory of one channel that holds the lines of one side
+abbrev pub sideMemory : (s : ℕ) → List ℤ → List ℤ
+sideMemory s m =
+    let h = heldIn m in
+    memoryOf (record { count = h .count; channels = pos 1; position = h .position; lines = placesOf (sidePlaces (bandsIn m)) s (h .lines) })
+
+-- rule 11.11: the output that was written on side s for frame n of calls from prepared memory
+abbrev pub writtenOn : (M channels s : ℕ) → List Call → ℕ → ℤ
+writtenOn M c s cs n = getD (played (prepared M c) cs .output) (c * n + s) (pos 0)
+
+-- rule 11.12: the calls of two runs carry the same gains and the same samples of one side
+unfoldable pub SameSide : (channels s : ℕ) → List Call → List Call → Type 0
+SameSide c s [] [] = Unit {0}
+SameSide c s [] (e ∷ ds) = ⊥
+SameSide c s (d ∷ cs) [] = ⊥
+SameSide c s (d ∷ cs) (e ∷ ds) = (d .gains ≡ e .gains) × (sideOf c s (d .input) ≡ sideOf c s (e .input)) × SameSide c s cs ds
