@@ -1,6 +1,7 @@
 // Samples and their bytes, one sample at a time and by the block.
 // No public call has a `requires`: what it cannot take it refuses, and then it changes nothing that is lent.
 mod block;
+mod channels;
 mod code;
 mod format;
 mod single;
@@ -9,6 +10,8 @@ pub use block::Stored;
 pub use block::Taken;
 pub use block::bytes_to_samples;
 pub use block::samples_to_bytes;
+pub use channels::Channels;
+pub use channels::channel_count;
 pub use format::Format;
 pub use format::bits;
 pub use format::bytes_each;

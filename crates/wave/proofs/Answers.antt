@@ -15,6 +15,7 @@ use Rattle.chunks.specs.Walk.{headerLength, sizeIn, named, Step, ends, walk}
 use Rattle.chunks.proofs.Headers.{size-there}
 use Rattle.chunks.proofs.Walks.{Visited, cuts, steps, visited}
 use Rattle.chunks.proofs.Deciding.{Comes, landing, kept}
+use Rattle.samples.specs.Channels.{countOf}
 use Rattle.wave.specs.Names.{riff, wave, data′}
 use Rattle.wave_values.specs.Values.{frameSize, knownRate}
 use Rattle.wave.specs.Walk.{Found, Seen, nothing, chunk, find, findOf, wholeFrames, readOf}
@@ -101,7 +102,7 @@ length-field front f l =
 -- .. and its length is whole frames
 pub record Acceptable (lent : List ℕ) (f : Found) : Type 0 where
   pub landed : Landed (take frontLength lent) f
-  pub whole-frames : f .size % frameSize (f .format) ≡ 0
+  pub whole-frames : f .size % frameSize (countOf (f .channels)) (f .format) ≡ 0
 
 pub read-told : (lent : List ℕ) → Told (Acceptable lent) 25 (readOf lent)
 unfolding readOf wholeFrames
@@ -109,8 +110,8 @@ read-told lent = by (findOf lent) (find-told lent)
   where
     by : (a : Answer Found) → Told (Landed (take frontLength lent)) 24 a → Told (Acceptable lent) 25 (wholeFrames a)
     by (accepted f) (accepts l) =
-        cond-case (Told (Acceptable lent) 25) _ _ (eqb (f .size % frameSize (f .format)) 0)
-        (λ h. accepts (record { landed = l; whole-frames = eqb-true (f .size % frameSize (f .format)) 0 h })) (λ _. refuses (lit≤ tt) (lit≤ tt))
+        cond-case (Told (Acceptable lent) 25) _ _ (eqb (f .size % frameSize (countOf (f .channels)) (f .format)) 0)
+        (λ h. accepts (record { landed = l; whole-frames = eqb-true (f .size % frameSize (countOf (f .channels)) (f .format)) 0 h })) (λ _. refuses (lit≤ tt) (lit≤ tt))
     by (refused n place) (refuses l m) = refuses l (omega arith)
 
 -- ---- an accepted answer
@@ -131,5 +132,5 @@ module _ (lent : List ℕ) (f : Found) where
   pub accepted-rate : readOf lent ≡ accepted f → knownRate (f .rate) ≡ true
   accepted-rate e = accepted-means e .landed .rate-known
 
-  pub accepted-whole : readOf lent ≡ accepted f → f .size % frameSize (f .format) ≡ 0
+  pub accepted-whole : readOf lent ≡ accepted f → f .size % frameSize (countOf (f .channels)) (f .format) ≡ 0
   accepted-whole e = accepted-means e .whole-frames

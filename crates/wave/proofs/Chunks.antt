@@ -1,43 +1,27 @@
 -- One chunk of the walk: what each way through the code gives is what the definitions say. Assumes nothing.
-use mathlib.Core.Path.{_≡_, refl, sym, ap, _∙_}
-use mathlib.Core.Bool.{Bool, true, false, not}
+use mathlib.Core.Path.{_≡_, sym, ap, _∙_}
+use mathlib.Core.Bool.{Bool, false, not}
 use mathlib.Core.List.{List}
 use Prim.Native.Nat.{ℕ, _+_, _≤_}
 use native.Mathlib.Omega.{arith}
 use lib.ListN.{length}
 use borrow.Author.Tests.{leb-true, not-false}
-use Rattle.answers.specs.Answer.{Answer, refused}
+use Rattle.answers.specs.Answer.{Answer}
 use Rattle.fields.specs.Bytes.{lowest, field}
-use Rattle.chunks.specs.Walk.{headerLength, sizeIn, contained, Step, ends, on}
-use Rattle.samples.specs.declared.format.Format.{Format}
-use Rattle.wave_values.specs.Values.{fmtLength, codingOf, right}
-use Rattle.wave.specs.Walk.{Found, Seen, sound, judged, values, dataChunk}
+use Rattle.chunks.specs.Walk.{headerLength, sizeIn, contained, Step, ends}
+use Rattle.wave_values.specs.Values.{fmtLength, codingOf, channelsOf}
+use Rattle.wave.specs.Walk.{Found, Seen, judged, values, dataChunk}
 use Rattle.wave_values.specs.declared.Coding.{Coding}
-use Rattle.wave_values.specs.declared.Coding.the-variants.{Known, Unknown}
+use Rattle.wave_values.specs.declared.Sides.{Sides}
 
 -- the six values, as they were read
-pub values-of : (rest : List ℕ) (tag bits count rate byteRate block : ℕ) (coding : Coding) (step : Step Seen (Answer Found)) →
-    tag ≡ field lowest rest 8 2 → bits ≡ field lowest rest 22 2 → coding ≡ codingOf tag bits →
-    count ≡ field lowest rest 10 2 → rate ≡ field lowest rest 12 4 → byteRate ≡ field lowest rest 16 4 → block ≡ field lowest rest 20 2 →
-    step ≡ judged coding count rate byteRate block → step ≡ values rest
+pub values-of : (rest : List ℕ) (tag bits count rate byteRate block : ℕ) (coding : Coding) (sides : Sides) (step : Step Seen (Answer Found)) →
+    tag ≡ field lowest rest 8 2 → bits ≡ field lowest rest 22 2 → coding ≡ codingOf tag bits → count ≡ field lowest rest 10 2 → sides ≡ channelsOf count →
+    rate ≡ field lowest rest 12 4 → byteRate ≡ field lowest rest 16 4 → block ≡ field lowest rest 20 2 →
+    step ≡ judged coding sides rate byteRate block → step ≡ values rest
 unfolding values
-values-of rest tag bits count rate byteRate block coding step t b k c r y f e =
-    rw (sym t, sym b, sym k, sym c, sym r, sym y, sym f) e
-
--- .. of a known format, right or wrong
-module _ (format : Format) (count rate byteRate block : ℕ) (r : Bool) (is : r ≡ right format count rate byteRate block) where
-  pub judged-right : r ≡ true → on (sound rate format) ≡ judged (Known format) count rate byteRate block
-  unfolding judged
-  judged-right h = rw (sym is ∙ h)
-
-  pub judged-wrong : r ≡ false → ends (refused 23 0) ≡ judged (Known format) count rate byteRate block
-  unfolding judged
-  judged-wrong h = rw (sym is ∙ h)
-
--- .. and of no known format
-pub judged-unknown : (count rate byteRate block : ℕ) → ends (refused 23 0) ≡ judged Unknown count rate byteRate block
-unfolding judged
-judged-unknown count rate byteRate block = refl
+values-of rest tag bits count rate byteRate block coding sides step t b k c s r y f e =
+    rw (sym t, sym b, sym k, sym c, sym s, sym r, sym y, sym f) e
 
 -- a `fmt ` of the right length that is all there has its values
 pub values-there : (rest : List ℕ) (size : ℕ) (r : Bool) → size ≡ sizeIn lowest rest → size ≡ fmtLength →

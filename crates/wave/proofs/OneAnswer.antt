@@ -24,22 +24,22 @@ refusal-way refusal.CutOff = refl
 refusal-way refusal.PartFrame = refl
 
 abbrev finding-back : Answer Found → Finding
-finding-back (accepted f) = finding.Data (f .rate) (f .format) (f .size) (f .start)
+finding-back (accepted f) = finding.Data (f .rate) (f .format) (f .channels) (f .size) (f .start)
 finding-back (refused n place) = finding.Refused (refusal-back n)
 
 finding-way : (r : Finding) → finding-back (findAnswer r) ≡ r
-finding-way (finding.Data rate format size start) = refl
+finding-way (finding.Data rate format channels size start) = refl
 finding-way (finding.Refused r) = ap finding.Refused (refusal-way r)
 
 pub one-find : (front : List ℕ) {r q : Finding} → findAnswer r ≡ findOf front → findAnswer q ≡ findOf front → r ≡ q
 one-find front = one-case findAnswer finding-back finding-way
 
 abbrev reading-back : Answer Found → Reading
-reading-back (accepted f) = reading.Accepted (f .rate) (f .format) (f .size) (f .start)
+reading-back (accepted f) = reading.Accepted (f .rate) (f .format) (f .channels) (f .size) (f .start)
 reading-back (refused n place) = reading.Refused (refusal-back n)
 
 reading-way : (r : Reading) → reading-back (readAnswer r) ≡ r
-reading-way (reading.Accepted rate format size start) = refl
+reading-way (reading.Accepted rate format channels size start) = refl
 reading-way (reading.Refused r) = ap reading.Refused (refusal-way r)
 
 pub one-read : (front : List ℕ) {r q : Reading} → readAnswer r ≡ readOf front → readAnswer q ≡ readOf front → r ≡ q

@@ -11,7 +11,7 @@ use Rattle.wave.specs.declared.chunk.Step.the-variants.{Ends, On}
 -- the `fmt ` that the code has met
 abbrev pub seenOf : Seen → header.Seen
 seenOf Nothing = header.nothing
-seenOf (Sound rate format) = header.sound rate format
+seenOf (Sound rate format channels) = header.sound rate format channels
 
 -- what the code makes of a chunk
 abbrev pub stepOf : Step → walk.Step header.Seen (Answer Found)

@@ -7,9 +7,12 @@ use chunks::place::HEADER_LENGTH;
 use fields::lowest::four;
 use fields::lowest::two;
 use fields::names::named;
+use samples::Channels;
 use samples::Format;
 use wave_values::Coding;
 use wave_values::FMT_LENGTH;
+use wave_values::Sides;
+use wave_values::channels_of;
 use wave_values::coding_of;
 use wave_values::right;
 ghost use mathlib.Core.Path.{_≡_};
@@ -17,13 +20,13 @@ ghost use Prim.Native.Nat.{_+_, _≤_, _<_, _^_};
 ghost use lib.ListN.{length};
 ghost use Rattle.chunks.specs.Walk.{headerLength};
 ghost use Rattle.wave_values.specs.Values.{fmtLength};
-ghost use Rattle.wave.specs.Walk.{values, fmtChunk, dataChunk, chunk, findAnswer};
+ghost use Rattle.wave.specs.Walk.{judged, values, fmtChunk, dataChunk, chunk, findAnswer};
 ghost use Rattle.wave.specs.Private.{seenOf, stepOf};
 
 // The `fmt ` that the walk has met.
 pub(crate) enum Seen {
     Nothing,
-    Sound(u32, Format),
+    Sound(u32, Format, Channels),
 }
 
 // What a chunk comes to: the answer, or on to the next chunk.
@@ -32,20 +35,30 @@ pub(crate) enum Step {
     On(Seen),
 }
 
+fn judged(coding: Coding, sides: Sides, rate: u32, byterate: u32, block: u32) -> Step
+    ensures { λ r. ⌜ stepOf r ≡ judged coding sides rate byterate block ⌝ }
+{
+    match coding {
+        Coding::Known(format) => match sides {
+            Sides::OneOrTwo(channels) => {
+                if right(format, channels, rate, byterate, block) {
+                    return Step::On(Seen::Sound(rate, format, channels));
+                }
+                Step::Ends(Finding::Refused(Refusal::WrongFormat))
+            }
+            Sides::OtherCount => Step::Ends(Finding::Refused(Refusal::WrongFormat)),
+        },
+        Coding::Unknown => Step::Ends(Finding::Refused(Refusal::WrongFormat)),
+    }
+}
+
 fn format_values(rest: &[u8]) -> Step
     requires { ⌜ headerLength + fmtLength ≤ length (now rest) ⌝ }
     ensures { λ r. ⌜ stepOf r ≡ values (now (rest .entry)) ⌝ }
 {
-    match coding_of(two(rest, 8), two(rest, 22)) {
-        Coding::Known(format) => {
-            let rate = four(rest, 12);
-            if right(format, two(rest, 10), rate, four(rest, 16), two(rest, 20)) {
-                return Step::On(Seen::Sound(rate, format));
-            }
-            Step::Ends(Finding::Refused(Refusal::WrongFormat))
-        }
-        Coding::Unknown => Step::Ends(Finding::Refused(Refusal::WrongFormat)),
-    }
+    let coding = coding_of(two(rest, 8), two(rest, 22));
+    let sides = channels_of(two(rest, 10));
+    judged(coding, sides, four(rest, 12), four(rest, 16), two(rest, 20))
 }
 
 fn format_chunk(rest: &[u8], seen: Seen) -> Step
@@ -60,7 +73,7 @@ fn format_chunk(rest: &[u8], seen: Seen) -> Step
     }
     match seen {
         Seen::Nothing => format_values(rest),
-        Seen::Sound(_, _) => Step::Ends(Finding::Refused(Refusal::WrongFormat)),
+        Seen::Sound(_, _, _) => Step::Ends(Finding::Refused(Refusal::WrongFormat)),
     }
 }
 
@@ -70,9 +83,10 @@ fn data_chunk(size: u32, at: usize, seen: Seen) -> Finding
 {
     match seen {
         Seen::Nothing => Finding::Refused(Refusal::NoFormat),
-        Seen::Sound(rate, format) => Finding::Data {
+        Seen::Sound(rate, format, channels) => Finding::Data {
             rate,
             format,
+            channels,
             size,
             start: at + HEADER_LENGTH,
         },

@@ -8,6 +8,7 @@ use chunks::form::FORM_LENGTH;
 use chunks::form::is_form;
 use chunks::lowest::next_after;
 use chunks::place::header_in;
+use samples::Channels;
 use samples::Format;
 use whole::counts::least;
 ghost use mathlib.Core.Path.{_≡_};
@@ -23,6 +24,7 @@ pub enum Finding {
     Data {
         rate: u32,
         format: Format,
+        channels: Channels,
         size: u32,
         start: usize,
     },

@@ -2,6 +2,7 @@
 use crate::finder::Finding;
 use crate::finder::find;
 use crate::refusal::Refusal;
+use samples::Channels;
 use samples::Format;
 use wave_values::frame_size;
 ghost use mathlib.Core.Path.{_≡_};
@@ -13,6 +14,7 @@ pub enum Reading {
     Accepted {
         rate: u32,
         format: Format,
+        channels: Channels,
         length: u32,
         start: usize,
     },
@@ -28,15 +30,17 @@ pub fn read(front: &[u8]) -> Reading
         Finding::Data {
             rate,
             format,
+            channels,
             size,
             start,
         } => {
-            if size % frame_size(format) != 0 {
+            if size % frame_size(channels, format) != 0 {
                 return Reading::Refused(Refusal::PartFrame);
             }
             Reading::Accepted {
                 rate,
                 format,
+                channels,
                 length: size,
                 start,
             }

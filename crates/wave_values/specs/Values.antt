@@ -2,23 +2,24 @@
 use Prim.Native.Nat.{ℕ, _*_}
 use mathlib.Core.Bool.{Bool, _&&_, _||_, cond}
 use lib.Dec.{eqb}
+use Rattle.samples.specs.Channels.{countOf}
 use Rattle.samples.specs.Format.{sizeOf}
+use Rattle.samples.specs.declared.channels.Channels.{Channels}
+use Rattle.samples.specs.declared.channels.Channels.the-variants.{One, Two}
 use Rattle.samples.specs.declared.format.Format.{Format}
 use Rattle.samples.specs.declared.format.Format.the-variants.{Bits16, Bits24}
 use Rattle.wave_values.specs.declared.Coding.{Coding}
 use Rattle.wave_values.specs.declared.Coding.the-variants.{Known, Unknown}
+use Rattle.wave_values.specs.declared.Sides.{Sides}
+use Rattle.wave_values.specs.declared.Sides.the-variants.{OneOrTwo, OtherCount}
 
 -- rule 8.6: the length of `fmt `
 abbrev pub fmtLength : ℕ
 fmtLength = 16
 
--- rule 8.8: the only number of channels
-abbrev pub channels : ℕ
-channels = 1
-
--- rule 8.9: the block size: the bytes of one frame, a sample of each channel
-abbrev pub frameSize : Format → ℕ
-frameSize format = channels * sizeOf format
+-- rule 8.9: the block size: the bytes of one frame, a sample of each of `count` channels
+abbrev pub frameSize : (count : ℕ) → Format → ℕ
+frameSize count format = count * sizeOf format
 
 -- rule 8.8: the tag and the bits say the format
 unfoldable pub codingOf : (tag bits : ℕ) → Coding
@@ -26,11 +27,16 @@ codingOf tag bits =
     cond (eqb tag 1) (cond (eqb bits 16) (Known Bits16) (cond (eqb bits 24) (Known Bits24) Unknown))
     Unknown
 
+-- rule 8.8: the channel count says one or two channels
+unfoldable pub channelsOf : ℕ → Sides
+channelsOf count = cond (eqb count 1) (OneOrTwo One) (cond (eqb count 2) (OneOrTwo Two) OtherCount)
+
 -- rule 8.8: the rate is one of the two
 unfoldable pub knownRate : ℕ → Bool
 knownRate rate = eqb rate 44100 || eqb rate 48000
 
--- rule 8.8: the other values are right for a format
-unfoldable pub right : Format → (count rate byteRate block : ℕ) → Bool
-right format count rate byteRate block =
-    eqb count channels && (knownRate rate && (eqb block (frameSize format) && eqb byteRate (rate * frameSize format)))
+-- rule 8.8: the other values are right for a format and its channels
+unfoldable pub right : Format → Channels → (rate byteRate block : ℕ) → Bool
+right format channels rate byteRate block =
+    let size = frameSize (countOf channels) format in
+    knownRate rate && (eqb block size && eqb byteRate (rate * size))

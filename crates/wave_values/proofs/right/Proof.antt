@@ -11,7 +11,6 @@ unfolding right
 right-spec =
     tie.close
     (tie.spec
-    (λ c. search anding depth 12)
     (λ c κs. search needs)
     (λ c. search anding depth 12)
     (λ c κs. search needs)

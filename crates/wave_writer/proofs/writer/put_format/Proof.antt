@@ -15,8 +15,8 @@ returns c =
     let m₁ = m₂ .before .before .before .before in
     let f = m₁ .before .before in
     let a = f .before .before .args in
-    fmt-row (a .rate) (f .frame-size .result) (m₆ .before .bits .result) (a .buffer .now) (m₁ .put-two .last .0) (m₂ .put-two2 .last .0)
-    (m₃ .put-four .last .0) (m₄ .put-four2 .last .0) (m₅ .put-two3 .last .0) (m₆ .put-two4 .last .0) (f .frame-size .ensures .0)
+    fmt-row (a .rate) (a .count) (f .frame-of .result) (m₆ .before .bits .result) (a .buffer .now) (m₁ .put-two .last .0) (m₂ .put-two2 .last .0)
+    (m₃ .put-four .last .0) (m₄ .put-four2 .last .0) (m₅ .put-two3 .last .0) (m₆ .put-two4 .last .0) (f .frame-of .ensures .0)
     (m₆ .before .bits .ensures) (m₁ .put-two .ensures) (m₂ .put-two2 .ensures) (m₃ .put-four .ensures) (m₄ .put-four2 .ensures)
     (m₅ .put-two3 .ensures) (m₆ .put-two4 .ensures)
 

@@ -12,7 +12,7 @@ returns c =
     let m₂ = m₃ .before .before .before .before .before in
     let m₁ = m₂ .before .before .before .before .before in
     let e = m₁ .before .before .before .before in
-    header-row (e .args .rate) (e .args .size) (e .args .buffer .now) (m₁ .put-chunk .last .0) (m₂ .put-name .last .0)
+    header-row (e .args .rate) (e .args .size) (e .args .count) (e .args .buffer .now) (m₁ .put-chunk .last .0) (m₂ .put-name .last .0)
     (m₃ .put-chunk2 .last .0) (m₄ .put-format .last .0) (m₅ .put-chunk3 .last .0) (e .pre .0) (m₁ .put-chunk .ensures)
     (m₂ .put-name .ensures) (m₃ .put-chunk2 .ensures) (m₄ .put-format .ensures) (m₅ .put-chunk3 .ensures)
 
