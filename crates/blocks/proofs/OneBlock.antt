@@ -27,24 +27,26 @@ use Rattle.samples.proofs.Codec.{to-all}
 use Rattle.blocks.specs.declared.block.Equalised.{Equalised}
 use Rattle.blocks.specs.declared.block.Equalised.the-variants.{Bytes, Refused}
 use Rattle.blocks.specs.Equalise.{zeros, blockFor, lengthsFit, isWritten, equaliseOf}
-use Rattle.blocks.proofs.Outputs.{allInRange, in-range-drop, equalised-long, equalised-in-range, held-ran, ran-held, refused-kept}
+use Rattle.blocks.proofs.Outputs.{allInRange, in-range-drop, equalised-long, equalised-in-range, held-ran, held-whole, ran-held, refused-kept}
 
 -- ---- the answer of the block call
 
 pub written-is : (n : ℕ) (b : Blocked) → b ≡ blocked.Written n → true ≡ isWritten b
 written-is n b e = sym (ap isWritten e)
 
-pub not-written : (b : Blocked) → OneOf (1 ∷ 2 ∷ 3 ∷ 4 ∷ 5 ∷ 6 ∷ []) (tagOf declared.the-type b) → false ≡ isWritten b
+pub not-written : (b : Blocked) → OneOf (1 ∷ 2 ∷ 3 ∷ 4 ∷ 5 ∷ 6 ∷ 7 ∷ []) (tagOf declared.the-type b) → false ≡ isWritten b
 not-written (blocked.Written n) (inl t) = absurd (omega arith)
 not-written (blocked.Written n) (inr (inl t)) = absurd (omega arith)
 not-written (blocked.Written n) (inr (inr (inl t))) = absurd (omega arith)
 not-written (blocked.Written n) (inr (inr (inr (inl t)))) = absurd (omega arith)
 not-written (blocked.Written n) (inr (inr (inr (inr (inl t))))) = absurd (omega arith)
-not-written (blocked.Written n) (inr (inr (inr (inr (inr t))))) = absurd (omega arith)
+not-written (blocked.Written n) (inr (inr (inr (inr (inr (inl t)))))) = absurd (omega arith)
+not-written (blocked.Written n) (inr (inr (inr (inr (inr (inr t)))))) = absurd (omega arith)
 not-written blocked.Memory t = refl
 not-written blocked.GainCount t = refl
 not-written blocked.Gain t = refl
 not-written blocked.OutputLength t = refl
+not-written blocked.PartFrame t = refl
 not-written blocked.TooLong t = refl
 not-written blocked.Sample t = refl
 
@@ -113,7 +115,7 @@ module _ (memory gains input : List ℤ) (skipped : ℕ) (stored : List ℕ) (l 
       o-is = ap (λ (x : List ℤ × List ℤ). x .1) (d .lent-is ∙ ap (λ (x : Outcome Blocked (List ℤ × List ℤ)). x .lent) (held-ran memory gains input (zeros input) held))
 
       o-long : length o ≡ length input
-      o-long = ap length o-is ∙ equalised-long memory gains input
+      o-long = ap length o-is ∙ equalised-long memory gains input (held-whole memory gains input (zeros input) held)
 
       pub outputs-there : (rest : List ℤ) → length input ≤ length (o ++ rest)
       outputs-there rest = omega (arith, o-long, length-append o rest)

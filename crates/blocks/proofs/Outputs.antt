@@ -2,29 +2,31 @@
 use mathlib.Core.Path.{_≡_, refl, sym, ap, subst, _∙_}
 use mathlib.Core.Bool.{Bool, true, false, cond}
 use mathlib.Core.List.{List, [], _∷_}
-use Prim.Native.Nat.{ℕ, zero, suc}
-use lib.Dec.{T}
-use lib.ListN.{length, drop}
-use lib.IntN.{ℤ}
+use Prim.Native.Nat.{ℕ, zero, suc, _%_}
+use borrow.Author.Tests.{eqb-true}
+use lib.Dec.{T, eqb}
+use lib.ListN.{length, getD, drop}
+use lib.IntN.{ℤ, pos}
 use lib.Signed.{ltZ, leZ, _≤ℤ_, ltZ-yes, clashℤ}
 use Rattle.answers.specs.Answer.{numberIn}
 use Rattle.answers.specs.Checks.{allHold}
 use Rattle.answers.specs.Judging.{allRefuse}
 use Rattle.answers.specs.Range.{within, firstOutside, allWithin}
-use Rattle.answers.specs.Unit.{leastSample, mostSample, unity}
+use Rattle.answers.specs.Unit.{leastSample, mostSample, largestGain, unity}
 use Rattle.answers.proofs.Ranges.{all-cons, cons-all}
-use Rattle.answers.proofs.Laws.{all-accept, decided, unnumbered-holds, refused-keeps}
+use Rattle.answers.proofs.Laws.{and-left, and-right, all-accept, decided, unnumbered-holds, refused-keeps}
 use Rattle.whole.specs.Nearest.{nearest}
 use Rattle.whole.proofs.Limit.{limit-least, limit-most}
-use Rattle.tree.specs.Prototype.{published}
 use Rattle.tree.specs.Signal.{gainOf}
-use Rattle.ring.specs.Line.{next}
-use Rattle.lines.specs.Cascade.{step, run}
+use Rattle.frames.specs.Frames.{frame, woven}
+use Rattle.frames.proofs.Laws.{whole-frames, woven-length}
+use Rattle.samples.proofs.InRange.{all-append}
 use Rattle.weighing.specs.Weighing.{outOf, bandSum, outputs}
 use Rattle.octave.specs.declared.block.Blocked.{Blocked}
 use Rattle.octave.specs.declared.block.Blocked.the-variants.{Written}
 use Rattle.octave.specs.Answer.{blockAnswer}
-use Rattle.octave.specs.Block.{blockChecks, equalised, blockOf}
+use Rattle.octave.specs.Memory.{channelsIn, accepts, bandsIn}
+use Rattle.octave.specs.Block.{framesOf, blockChecks, ranSide, equalised, blockOf}
 
 -- ---- in range
 
@@ -69,24 +71,34 @@ outputs-in-range g [] = none-within leastSample mostSample
 outputs-in-range g (a ∷ rest) =
     next-in-range (outOf (bandSum (g 0) a)) (outputs (λ i. g (suc i)) rest) (out-in-range (bandSum (g 0) a)) (outputs-in-range (λ i. g (suc i)) rest)
 
--- ---- as many as samples
+-- ---- frames
 
-run-long : (size k at : ℕ) (lines xs : List ℤ) → length (run published size k at lines xs .aligned) ≡ length xs
-unfolding run
-run-long size k at lines [] = refl
-run-long size k at lines (x ∷ xs) = ap suc (run-long size k (next size at) (step published size k 1 at lines x .places) xs)
+pub in-range-at : (i : ℕ) (s : List ℤ) → allInRange s ≡ true → inRange (getD s i (pos 0)) ≡ true
+in-range-at i [] e = refl
+in-range-at zero (z ∷ s) e = all-cons leastSample mostSample z s e .0
+in-range-at (suc i) (z ∷ s) e = in-range-at i s (all-cons leastSample mostSample z s e .1)
 
-outputs-long : (g : ℕ → ℕ → ℤ) (aligned : List (List ℤ)) → length (outputs g aligned) ≡ length aligned
-unfolding outputs
-outputs-long g [] = refl
-outputs-long g (a ∷ rest) = ap suc (outputs-long (λ i. g (suc i)) rest)
+frame-in-range : (c : ℕ) (f : ℕ → ℤ) → ((s : ℕ) → inRange (f s) ≡ true) → allInRange (frame c f) ≡ true
+unfolding frame
+frame-in-range zero f e = none-within leastSample mostSample
+frame-in-range (suc c) f e = next-in-range (f 0) (frame c (λ s. f (suc s))) (e 0) (frame-in-range c (λ s. f (suc s)) (λ s. e (suc s)))
+
+-- frames of sides in range
+pub woven-in-range : (c n : ℕ) (sides : ℕ → List ℤ) → ((s : ℕ) → allInRange (sides s) ≡ true) → allInRange (woven c n sides) ≡ true
+unfolding woven
+woven-in-range c zero sides e = none-within leastSample mostSample
+woven-in-range c (suc n) sides e =
+    all-append leastSample mostSample (frame c (λ s. getD (sides s) 0 (pos 0))) (woven c n (λ s. drop 1 (sides s)))
+    (frame-in-range c (λ s. getD (sides s) 0 (pos 0)) (λ s. in-range-at 0 (sides s) (e s)))
+    (woven-in-range c n (λ s. drop 1 (sides s)) (λ s. in-range-drop 1 (sides s) (e s)))
 
 module _ (m gains input : List ℤ) where
-  pub equalised-long : length (equalised m gains input .1) ≡ length input
-  equalised-long = outputs-long (λ _. gainOf gains) _ ∙ run-long _ _ _ _ input
+  -- as many outputs as samples, in whole frames
+  pub equalised-long : length input % channelsIn m ≡ 0 → length (equalised m gains input .1) ≡ length input
+  equalised-long whole = woven-length (channelsIn m) (framesOf m input) _ ∙ sym (whole-frames (length input) (channelsIn m) whole refl)
 
   pub equalised-in-range : allInRange (equalised m gains input .1) ≡ true
-  equalised-in-range = outputs-in-range (λ _. gainOf gains) _
+  equalised-in-range = woven-in-range (channelsIn m) (framesOf m input) _ (λ s. outputs-in-range (λ _. gainOf gains) (ranSide m input s .aligned))
 
 -- ---- the block call
 
@@ -95,17 +107,27 @@ unfolding allRefuse
 all-refuse m gains input before = refl
 
 module _ (m gains input before : List ℤ) where
-  pub held-ran : allHold (blockChecks m gains input before) ≡ true → blockOf m gains input before ≡ record { result = Written (length input); lent = equalised m gains input }
-  held-ran h = all-accept (m, before) (equalised m gains input) (Written (length input)) (blockChecks m gains input before) h
+  pub held-ran : allHold (blockChecks m gains input before) ≡ true → blockOf m gains input before ≡ record { result = Written (framesOf m input); lent = equalised m gains input }
+  held-ran h = all-accept (m, before) (equalised m gains input) (Written (framesOf m input)) (blockChecks m gains input before) h
+
+  -- .. whose samples are whole frames
+  pub held-whole : allHold (blockChecks m gains input before) ≡ true → length input % channelsIn m ≡ 0
+  unfolding allHold
+  held-whole h =
+      let counted = and-right (accepts m) _ h in
+      let allowed = and-right (eqb (length gains) (bandsIn m)) _ counted in
+      let alike = and-right (allWithin (pos 0) (pos largestGain) gains) _ allowed in
+      let framed = and-right (eqb (length before) (length input)) _ alike in
+      eqb-true (length input % channelsIn m) 0 (and-left (eqb (length input % channelsIn m) 0) _ framed)
 
   -- an answer without a number was accepted
   pub ran-held : numberIn (blockAnswer (blockOf m gains input before .result)) ≡ 0 → allHold (blockChecks m gains input before) ≡ true
   ran-held e =
       let cs = blockChecks m gains input before in
-      let r = Written (length input) in
+      let r = Written (framesOf m input) in
       unnumbered-holds blockAnswer cs r (all-refuse m gains input before)
       (sym (ap (λ (q : Blocked). numberIn (blockAnswer q)) (decided (m, before) (equalised m gains input) r cs)) ∙ e)
 
   -- one with a number was refused, and leaves what was lent
   pub refused-kept : (numberIn (blockAnswer (blockOf m gains input before .result)) ≡ 0 → ⊥) → blockOf m gains input before .lent ≡ (m, before)
-  refused-kept n = refused-keeps blockAnswer (blockChecks m gains input before) (m, before) (equalised m gains input) (Written (length input)) n refl
+  refused-kept n = refused-keeps blockAnswer (blockChecks m gains input before) (m, before) (equalised m gains input) (Written (framesOf m input)) n refl

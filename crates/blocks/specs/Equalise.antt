@@ -37,7 +37,7 @@ equaliseChecks memory gains input skipped stored =
     check (lengthsFit (length input) skipped (length stored)) Refused ∷
     check (isWritten (blockFor memory gains input .result)) Refused ∷ []
 
--- rule 10.16: memory and stored bytes afterwards: those of the outputs but the first `skipped`
+-- rule 10.16: memory and stored bytes afterwards: those of the outputs but the first `skipped` samples
 unfoldable pub equaliseOf : (memory gains input : List ℤ) → ℕ → List ℕ → Outcome Equalised (List ℤ × List ℕ)
 equaliseOf memory gains input skipped stored =
     let b = blockFor memory gains input in

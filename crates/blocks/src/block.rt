@@ -46,8 +46,8 @@ fn cleared() -> [i32; BLOCK_LIMIT]
     [0; BLOCK_LIMIT]
 }
 
-// Equalises a block and stores its outputs but the first `skipped`, three bytes each. The lengths are judged first, so that a
-// refusal leaves the memory as it was.
+// Equalises a block of the memory's channels, frame behind frame, and stores its outputs but the first `skipped` samples, three bytes each.
+// The lengths are judged first, so that a refusal leaves the memory as it was.
 pub fn equalise(
     memory: &mut [i32],
     gains: &[i32],

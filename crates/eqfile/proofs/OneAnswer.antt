@@ -21,7 +21,7 @@ refusalBack : ℕ → Refusal
 refusalBack n = cond (eqb n 30) refusal.Arguments (cond (eqb n 26) refusal.TooLong (refusal.Header (refusal-back n)))
 
 startBack : Answer Plan → Start
-startBack (accepted p) = start.Run (p .rate) (p .format) (p .samples) (p .start)
+startBack (accepted p) = start.Run (p .rate) (p .format) (p .channels) (p .frames) (p .start)
 startBack (refused n p) = start.Refused (refusalBack n)
 
 refusal-way : (r : Refusal) → refusalBack (numberOf r) ≡ r
@@ -36,7 +36,7 @@ refusal-way refusal.TooLong = refl
 
 start-way : (r : Start) → startBack (startAnswer r) ≡ r
 unfolding startBack
-start-way (start.Run rate format samples at) = refl
+start-way (start.Run rate format channels frames at) = refl
 start-way (start.Refused r) = ap start.Refused (refusal-way r)
 
 -- ---- one answer

@@ -8,9 +8,12 @@ use native.Mathlib.Omega.{arith}
 use borrow.Author.Tests.{lt-ltb, le-ltb, ltb-false, eq-eqb, ne-eqb}
 use Rattle.answers.specs.Answer.{Answer, accepted, refused}
 use Rattle.answers.specs.Unit.{largestData}
-use Rattle.samples.specs.Format.{sizeOf}
+use Rattle.samples.specs.Channels.{countOf}
+use Rattle.samples.specs.declared.channels.Channels.{Channels}
+use Rattle.samples.specs.declared.channels.Channels.the-variants.{One, Two}
 use Rattle.wave.specs.Walk.{Found, readOf, readAnswer}
 use Rattle.samples.specs.declared.format.Format.{Format}
+use Rattle.wave_values.specs.Values.{frameSize}
 use Rattle.wave.specs.declared.reader.Reading.the-variants.{Accepted}
 use Rattle.arguments.specs.declared.taking.Arguments.{Arguments}
 use Rattle.arguments.specs.declared.taking.Arguments.the-variants as arguments
@@ -21,15 +24,27 @@ pub reader-refuses : (k : ℕ) → refused k 0 ≡ planOf (refused k 0)
 unfolding planOf
 reader-refuses k = refl
 
-module _ (rate : ℕ) (format : Format) (size start block : ℕ) (is : block ≡ sizeOf format) where
-  pub too-long : largestData < 3 * (size / block) → refused 26 0 ≡ planOf (readAnswer (Accepted rate format size start))
-  unfolding planOf
-  too-long h = rw (lt-ltb largestData (3 * (size / sizeOf format)) (rw is at h))
+-- the most samples that a header can state, as frames of so many channels
+more-than : (channels : Channels) (n : ℕ) → largestData / 3 / countOf channels < n → largestData < 3 * (countOf channels * n)
+more-than One n h = omega arith
+more-than Two n h = omega arith
 
-  pub to-be-written : 3 * (size / block) ≤ largestData →
-      accepted (record { rate = rate; format = format; samples = size / block; start = start }) ≡ planOf (readAnswer (Accepted rate format size start))
+no-more-than : (channels : Channels) (n : ℕ) → n ≤ largestData / 3 / countOf channels → 3 * (countOf channels * n) ≤ largestData
+no-more-than One n h = omega arith
+no-more-than Two n h = omega arith
+
+module _ (rate : ℕ) (format : Format) (channels : Channels) (size start block count : ℕ) (is : block ≡ frameSize (countOf channels) format) (sides : count ≡ countOf channels) where
+  abbrev frames : ℕ
+  frames = size / frameSize (countOf channels) format
+
+  pub too-long : largestData / 3 / count < size / block → refused 26 0 ≡ planOf (readAnswer (Accepted rate format channels size start))
   unfolding planOf
-  to-be-written h = rw (is, le-ltb largestData (3 * (size / sizeOf format)) (rw is at h))
+  too-long h = rw (lt-ltb largestData (3 * (countOf channels * frames)) (more-than channels frames (rw (is, sides) at h)))
+
+  pub to-be-written : size / block ≤ largestData / 3 / count →
+      accepted (record { rate = rate; format = format; channels = channels; frames = size / block; start = start }) ≡ planOf (readAnswer (Accepted rate format channels size start))
+  unfolding planOf
+  to-be-written h = rw (is, le-ltb largestData (3 * (countOf channels * frames)) (no-more-than channels frames (rw (is, sides) at h)))
 
 pub arguments-refused : (front : List ℕ) → refused 30 0 ≡ startOf arguments.Refused front
 unfolding startOf
@@ -43,18 +58,24 @@ pub eight : (n : ℕ) (front : List ℕ) (a : Answer Plan) → n ≡ bands → a
 unfolding startOf
 eight n front a h e = rw (eq-eqb n bands h, e)
 
--- a run that starts has samples whose bytes a header can state
+-- a run that starts has frames whose bytes a header can state
 abbrev pub Writable : Answer Plan → Type 0
-Writable (accepted p) = 3 * p .samples ≤ largestData
+Writable (accepted p) = 3 * (countOf (p .channels) * p .frames) ≤ largestData
 Writable (refused k p) = Unit {0}
 
 writable-plan : (f : Found) → Writable (planFor f)
-writable-plan f = by (ltb largestData (3 * (f .size / sizeOf (f .format)))) refl
+writable-plan f = by (ltb largestData (3 * (count * frames))) refl
   where
-    by : (b : Bool) → ltb largestData (3 * (f .size / sizeOf (f .format))) ≡ b →
-        Writable (cond b (refused 26 0) (accepted (record { rate = f .rate; format = f .format; samples = f .size / sizeOf (f .format); start = f .start })))
+    count : ℕ
+    count = countOf (f .channels)
+
+    frames : ℕ
+    frames = f .size / frameSize count (f .format)
+
+    by : (b : Bool) → ltb largestData (3 * (count * frames)) ≡ b →
+        Writable (cond b (refused 26 0) (accepted (record { rate = f .rate; format = f .format; channels = f .channels; frames = frames; start = f .start })))
     by true e = tt
-    by false e = let h = ltb-false largestData (3 * (f .size / sizeOf (f .format))) e in omega arith
+    by false e = let h = ltb-false largestData (3 * (count * frames)) e in omega arith
 
 writable-read : (a : Answer Found) → Writable (planOf a)
 unfolding planOf

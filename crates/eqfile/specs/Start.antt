@@ -5,8 +5,10 @@ use Prim.Native.Nat.{ℕ, _*_, _/_}
 use lib.Dec.{eqb, ltb}
 use Rattle.answers.specs.Answer.{Answer, accepted, refused}
 use Rattle.answers.specs.Unit.{largestData}
-use Rattle.samples.specs.Format.{sizeOf}
+use Rattle.samples.specs.Channels.{countOf}
+use Rattle.samples.specs.declared.channels.Channels.{Channels}
 use Rattle.samples.specs.declared.format.Format.{Format}
+use Rattle.wave_values.specs.Values.{frameSize}
 use Rattle.wave.specs.Walk.{Found, readOf}
 use Rattle.wave.specs.Walk as wave
 use Rattle.arguments.specs.declared.taking.Arguments.{Arguments}
@@ -17,11 +19,12 @@ use Rattle.eqfile.specs.declared.refusal.Refusal.the-variants as refusal
 use Rattle.eqfile.specs.declared.start.Start.{Start}
 use Rattle.eqfile.specs.declared.start.Start.the-variants.{Run, Refused}
 
--- rule 10.6: a run: rate and format of the file, its number of samples, and where their bytes start
+-- rule 10.6: a run: rate, format and channels of the file, its number of frames, and where their bytes start
 pub record Plan : Type 0 where
   pub rate : ℕ
   pub format : Format
-  pub samples : ℕ
+  pub channels : Channels
+  pub frames : ℕ
   pub start : ℕ
 
 -- the rule book's number of a refusal
@@ -30,12 +33,13 @@ numberOf refusal.Arguments = 30
 numberOf (refusal.Header r) = wave.numberOf r
 numberOf refusal.TooLong = 26
 
--- rule 10.6: the samples in the data, if a header can state the bytes that they are written in
+-- rule 10.6: the frames in the data, if a header can state the bytes that they are written in
 abbrev pub planFor : Found → Answer Plan
 planFor f =
-    let samples = f .size / sizeOf (f .format) in
-    cond (ltb largestData (3 * samples)) (refused 26 0)
-    (accepted (record { rate = f .rate; format = f .format; samples = samples; start = f .start }))
+    let count = countOf (f .channels) in
+    let frames = f .size / frameSize count (f .format) in
+    cond (ltb largestData (3 * (count * frames))) (refused 26 0)
+    (accepted (record { rate = f .rate; format = f .format; channels = f .channels; frames = frames; start = f .start }))
 
 -- rule 10.5: then the reader's; then 26
 unfoldable pub planOf : Answer Found → Answer Plan
@@ -50,5 +54,6 @@ startOf arguments.Refused front = refused 30 0
 
 -- in the rule book's numbers
 abbrev pub startAnswer : Start → Answer Plan
-startAnswer (Run rate format samples start) = accepted (record { rate = rate; format = format; samples = samples; start = start })
+startAnswer (Run rate format channels frames start) =
+    accepted (record { rate = rate; format = format; channels = channels; frames = frames; start = start })
 startAnswer (Refused r) = refused (numberOf r) 0

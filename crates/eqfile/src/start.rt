@@ -3,19 +3,22 @@ use crate::refusal::Refusal;
 use answers::unit::LARGEST_DATA;
 use arguments::Arguments;
 use arguments::BANDS;
+use samples::Channels;
 use samples::Format;
-use samples::bytes_each;
+use samples::channel_count;
 use wave::Reading;
+use wave_values::frame_size;
 ghost use mathlib.Core.Path.{_≡_};
 ghost use Rattle.wave.specs.Walk.{readAnswer};
 ghost use Rattle.eqfile.specs.Start.{planOf, startOf, startAnswer};
 
 pub enum Start {
-    // `samples` samples of a format, whose bytes begin at `start` of the front.
+    // `frames` frames of a format in one or two channels, whose bytes begin at `start` of the front.
     Run {
         rate: u32,
         format: Format,
-        samples: u32,
+        channels: Channels,
+        frames: u32,
         start: usize,
     },
     Refused(Refusal),
@@ -24,7 +27,7 @@ pub enum Start {
 // The most samples whose three bytes each a header can state.
 const MOST: u32 = LARGEST_DATA / 3;
 
-// An accepted header, if its samples can be written.
+// An accepted header, if its frames can be written.
 fn plan(reading: Reading) -> Start
     ensures { λ r. ⌜ startAnswer r ≡ planOf (readAnswer reading) ⌝ }
 {
@@ -32,17 +35,19 @@ fn plan(reading: Reading) -> Start
         Reading::Accepted {
             rate,
             format,
+            channels,
             length,
             start,
         } => {
-            let samples = length / bytes_each(format);
-            if MOST < samples {
+            let frames = length / frame_size(channels, format);
+            if MOST / channel_count(channels) < frames {
                 return Start::Refused(Refusal::TooLong);
             }
             Start::Run {
                 rate,
                 format,
-                samples,
+                channels,
+                frames,
                 start,
             }
         }

@@ -4,9 +4,9 @@ use mathlib.Core.List.{List, [], _∷_, _++_}
 use Prim.Native.Nat.{ℕ, _+_, _*_}
 use lib.ListN.{length, take, drop}
 use lib.IntN.{ℤ}
-use Rattle.samples.specs.Format.{sizeOf}
+use Rattle.samples.specs.Channels.{countOf}
 use Rattle.eqfile.specs.Turn.{shortOf}
-use Rattle.runs.specs.Program.{State, fresh, handed, blockDone, programWrites}
+use Rattle.runs.specs.Program.{State, fresh, handed, frameBytes, blockDone, programWrites}
 use Rattle.runs.specs.Started.{fileOf}
 use Rattle.runs.proofs.OneMore.{writes-more}
 use Rattle.runs.proofs.Starting.{stated}
@@ -18,25 +18,25 @@ use Rattle.turning.specs.Running.{Due, Ended}
 -- what is handed over follows what the turns before it handed over
 pub due-is-next : (job : Job) (gains : List ℤ) (front bytes : List ℕ) (d : Due job gains front bytes) →
     let us = d .came .running .pieces in
-    programWrites gains (job .format) (job .samples) fresh (us ++ d .piece ∷ []) ≡ programWrites gains (job .format) (job .samples) fresh us ++ bytes
+    programWrites gains (job .format) (job .channels) (job .frames) (fresh (job .channels)) (us ++ d .piece ∷ []) ≡ programWrites gains (job .format) (job .channels) (job .frames) (fresh (job .channels)) us ++ bytes
 due-is-next job gains front bytes d =
     let run = d .came .running in
     let us = run .pieces in
-    writes-more gains (job .format) (job .samples) fresh us (d .piece) ∙
-    ap (λ (l : List ℕ). programWrites gains (job .format) (job .samples) fresh us ++ l)
-    (sym (d .is ∙ ap (λ (s : State). blockDone gains (job .format) (job .samples) s (d .piece) .lent .1) (run .stands)))
+    writes-more gains (job .format) (job .channels) (job .frames) (fresh (job .channels)) us (d .piece) ∙
+    ap (λ (l : List ℕ). programWrites gains (job .format) (job .channels) (job .frames) (fresh (job .channels)) us ++ l)
+    (sym (d .is ∙ ap (λ (s : State). blockDone gains (job .format) (job .channels) (job .frames) s (d .piece) .lent .1) (run .stands)))
 
 module _ (job : Job) (gains : List ℤ) (front : List ℕ) (read : ℕ) (e : Ended job gains front read) where
   -- the bytes read and those that are short are the `data` that the header states
-  pub short-said : read + shortOf (sizeOf (job .format)) (job .samples) read ≡ stated (e .started) .found .size
+  pub short-said : read + shortOf (frameBytes (job .format) (job .channels)) (job .frames) read ≡ stated (e .started) .found .size
   short-said =
-      ap (λ (n : ℕ). n + shortOf (sizeOf (job .format)) (job .samples) n) (e .read-is) ∙
-      short-adds-up gains (job .format) (job .samples) (e .pieces) (e .by-plan .0) ∙ sym (stated (e .started) .size-is)
+      ap (λ (n : ℕ). n + shortOf (frameBytes (job .format) (job .channels)) (job .frames) n) (e .read-is) ∙
+      short-adds-up gains (job .format) (job .channels) (job .frames) (e .pieces) (e .by-plan .0) ∙ sym (stated (e .started) .size-is)
 
   -- what of the data came with the front was read first
-  pub front-read-first : let came = take (sizeOf (job .format) * job .samples) (drop (job .start) front) in take (length came) (handed (e .pieces)) ≡ came
-  front-read-first = front-first gains (job .format) (job .samples) front (job .start) (e .pieces) (e .started .few) (e .by-plan) (e .fetched)
+  pub front-read-first : let came = take (frameBytes (job .format) (job .channels) * job .frames) (drop (job .start) front) in take (length came) (handed (e .pieces)) ≡ came
+  front-read-first = front-first gains (job .format) (job .channels) (job .frames) front (job .start) (e .pieces) (e .started .few) (e .by-plan) (e .fetched)
 
   -- the file is as long as its header says
-  pub whole-length : length (fileOf gains (e .rate) (job .format) (job .samples) (e .pieces)) ≡ 44 + 3 * job .samples
+  pub whole-length : length (fileOf gains (e .rate) (job .format) (job .channels) (job .frames) (e .pieces)) ≡ 44 + 3 * (countOf (job .channels) * job .frames)
   whole-length = file-length (e .started) (e .pieces) (e .by-plan)

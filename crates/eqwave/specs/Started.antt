@@ -6,6 +6,7 @@ use lib.IntN.{ℤ, pos}
 use Rattle.answers.specs.Unit.{frontLength}
 use Rattle.arguments.specs.declared.taking.Arguments.{Arguments}
 use Rattle.arguments.specs.Arguments.{bands}
+use Rattle.samples.specs.declared.channels.Channels.{Channels}
 use Rattle.runs.specs.Started.{Started}
 use Rattle.turning.specs.declared.place.Job.{Job}
 use Rattle.arguments.specs.Given.{AllTaken}
@@ -15,9 +16,9 @@ pub record Before (arguments : Arguments) (front : List ℕ) (gains : List ℤ) 
   pub all-taken : AllTaken (replicate bands (pos 0)) arguments gains
   pub few : length front ≤ frontLength
 
--- rule 10.8: some run has started with this rate and number of samples
-pub record Begun (rate samples : ℕ) : Type 0 where
+-- rule 10.8: some run has started with this rate, these channels and this number of frames
+pub record Begun (rate : ℕ) (channels : Channels) (frames : ℕ) : Type 0 where
   pub job : Job
   pub gains : List ℤ
   pub front : List ℕ
-  pub started : Started gains front rate (job .format) samples (job .start)
+  pub started : Started gains front rate (job .format) channels frames (job .start)

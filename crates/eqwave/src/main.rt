@@ -25,12 +25,14 @@ fn begin(arguments: Arguments, front: &[u8], gains: &[i32])
         Start::Run {
             rate,
             format,
-            samples,
+            channels,
+            frames,
             start,
         } => {
             let job = Job {
                 format,
-                samples,
+                channels,
+                frames,
                 start,
             };
             run::run(rate, job, gains, front)

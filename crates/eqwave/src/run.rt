@@ -1,5 +1,7 @@
 // A run: the header, then turn after turn.
 use crate::say;
+use samples::Channels;
+use samples::channel_count;
 use turning::buffers;
 use turning::output;
 use turning::place::Job;
@@ -18,7 +20,8 @@ fn missing(job: Job, gains: &[i32], front: &[u8], read: usize)
     requires { ⌜ Ended job (now gains) (now front) read ⌝ }
 {
     let format = job.format;
-    let bytes = eqfile::short(format, job.samples, read);
+    let channels = job.channels;
+    let bytes = eqfile::short(format, channels, job.frames, read);
     if 0 < bytes {
         say::line(b"short ", bytes as u64);
     }
@@ -29,7 +32,7 @@ fn turns(job: Job, gains: &[i32], front: &[u8], memory: &mut [i32])
     requires { ⌜ Running job (now gains) (now front) (record { at = 0; read = 0 }) (now memory) ⌝ }
 {
     let mut place = Place { at: 0, read: 0 };
-    let total = eqfile::fed_in_all(job.samples);
+    let total = eqfile::fed_in_all(job.frames);
     while place.at < total {
         let turned = one_turn(job, gains, front, place, memory);
         let Turned::On(further) = turned else {
@@ -42,22 +45,26 @@ fn turns(job: Job, gains: &[i32], front: &[u8], memory: &mut [i32])
 }
 
 // The header of a run that has started. Answers whether standard output took it.
-fn put_header(rate: u32, samples: u32) -> bool
-    requires { ⌜ Begun rate samples ⌝ }
+fn put_header(rate: u32, channels: Channels, frames: u32) -> bool
+    requires { ⌜ Begun rate channels frames ⌝ }
 {
     let mut header = [0u8; 44];
-    wave_writer::write(&mut header, rate, 3 * samples);
-    output::hand_header(&header, rate, samples)
+    let sides = channel_count(channels);
+    wave_writer::write(&mut header, rate, 3 * (sides * frames), sides as i32);
+    output::hand_header(&header, rate, channels, frames)
 }
 
 pub(crate) fn run(rate: u32, job: Job, gains: &[i32], front: &[u8])
-    requires { ⌜ Started (now gains) (now front) rate (job .format) (job .samples) (job .start) ⌝ }
+    requires { ⌜ Started (now gains) (now front) rate (job .format) (job .channels) (job .frames) (job .start) ⌝ }
 {
-    if !put_header(rate, job.samples) {
+    let channels = job.channels;
+    if !put_header(rate, channels, job.frames) {
         say::output_failed();
         return;
     }
     let mut memory = buffers::memory();
-    octave::memory::prepare(BANDS, &mut memory);
-    turns(job, gains, front, &mut memory);
+    let places = buffers::places(channels);
+    let sides = channel_count(channels);
+    octave::memory::prepare(BANDS, sides as i32, &mut memory[..places]);
+    turns(job, gains, front, &mut memory[..places]);
 }

@@ -1,4 +1,5 @@
 pub mod Written
+pub mod EachSide
 pub mod NeverMore
 pub mod SamplesInPieces
 pub mod InRange

@@ -4,39 +4,40 @@ use mathlib.Core.List.{List, [], _∷_, _++_, append-nil, append-assoc}
 use Prim.Native.Nat.{ℕ, _+_, _-_, _≤_}
 use native.Mathlib.Omega.{arith}
 use lib.IntN.{ℤ}
+use Rattle.samples.specs.declared.channels.Channels.{Channels}
 use Rattle.samples.specs.declared.format.Format.{Format}
 use Rattle.eqfile.specs.Turn.{fedInAll, turnOf}
 use Rattle.runs.specs.Program.{State, Follows, turnAt, blockDone, next, after, Followed, programWrites, fromOf, Fetched, AllFetched}
 
-module _ (gains : List ℤ) (format : Format) (samples : ℕ) where
-  pub after-more : (s : State) (us : List (List ℕ)) (u : List ℕ) → after gains format samples s (us ++ u ∷ []) ≡ next gains format samples (after gains format samples s us) u
+module _ (gains : List ℤ) (format : Format) (channels : Channels) (frames : ℕ) where
+  pub after-more : (s : State) (us : List (List ℕ)) (u : List ℕ) → after gains format channels frames s (us ++ u ∷ []) ≡ next gains format channels frames (after gains format channels frames s us) u
   unfolding after
   after-more s [] u = refl
-  after-more s (v ∷ us) u = after-more (next gains format samples s v) us u
+  after-more s (v ∷ us) u = after-more (next gains format channels frames s v) us u
 
-  pub followed-more : (s : State) (us : List (List ℕ)) (u : List ℕ) → Followed gains format samples s us → Follows (turnAt format samples (after gains format samples s us)) u →
-      Followed gains format samples s (us ++ u ∷ [])
+  pub followed-more : (s : State) (us : List (List ℕ)) (u : List ℕ) → Followed gains format channels frames s us → Follows (turnAt format channels frames (after gains format channels frames s us)) u →
+      Followed gains format channels frames s (us ++ u ∷ [])
   unfolding after Followed
   followed-more s [] u h f = (f, tt)
-  followed-more s (v ∷ us) u h f = (h .0, followed-more (next gains format samples s v) us u (h .1) f)
+  followed-more s (v ∷ us) u h f = (h .0, followed-more (next gains format channels frames s v) us u (h .1) f)
 
-  pub fetched-more : (front : List ℕ) (start : ℕ) (s : State) (us : List (List ℕ)) (u : List ℕ) → AllFetched gains format samples front start s us →
-      (let e = after gains format samples s us in Fetched front (fromOf front start (e .at)) (turnAt format samples e .wanted) u) → AllFetched gains format samples front start s (us ++ u ∷ [])
+  pub fetched-more : (front : List ℕ) (start : ℕ) (s : State) (us : List (List ℕ)) (u : List ℕ) → AllFetched gains format channels frames front start s us →
+      (let e = after gains format channels frames s us in Fetched front (fromOf front start (e .at)) (turnAt format channels frames e .wanted) u) → AllFetched gains format channels frames front start s (us ++ u ∷ [])
   unfolding after AllFetched
   fetched-more front start s [] u h f = (f, tt)
-  fetched-more front start s (v ∷ us) u h f = (h .0, fetched-more front start (next gains format samples s v) us u (h .1) f)
+  fetched-more front start s (v ∷ us) u h f = (h .0, fetched-more front start (next gains format channels frames s v) us u (h .1) f)
 
   -- never more is fed than there is
-  pub at-within : (s : State) (us : List (List ℕ)) → s .at ≤ fedInAll samples → after gains format samples s us .at ≤ fedInAll samples
+  pub at-within : (s : State) (us : List (List ℕ)) → s .at ≤ fedInAll frames → after gains format channels frames s us .at ≤ fedInAll frames
   unfolding after turnOf
   at-within s [] h = h
-  at-within s (u ∷ us) h = at-within (next gains format samples s u) us (omega arith)
+  at-within s (u ∷ us) h = at-within (next gains format channels frames s u) us (omega arith)
 
   -- what is handed over after some turns follows what they handed over
   pub writes-more : (s : State) (us : List (List ℕ)) (u : List ℕ) →
-      programWrites gains format samples s (us ++ u ∷ []) ≡ programWrites gains format samples s us ++ blockDone gains format samples (after gains format samples s us) u .lent .1
+      programWrites gains format channels frames s (us ++ u ∷ []) ≡ programWrites gains format channels frames s us ++ blockDone gains format channels frames (after gains format channels frames s us) u .lent .1
   unfolding after programWrites
-  writes-more s [] u = append-nil (blockDone gains format samples s u .lent .1)
+  writes-more s [] u = append-nil (blockDone gains format channels frames s u .lent .1)
   writes-more s (v ∷ us) u =
-      ap (λ (l : List ℕ). blockDone gains format samples s v .lent .1 ++ l) (writes-more (next gains format samples s v) us u) ∙
-      sym (append-assoc (blockDone gains format samples s v .lent .1) (programWrites gains format samples (next gains format samples s v) us) _)
+      ap (λ (l : List ℕ). blockDone gains format channels frames s v .lent .1 ++ l) (writes-more (next gains format channels frames s v) us u) ∙
+      sym (append-assoc (blockDone gains format channels frames s v .lent .1) (programWrites gains format channels frames (next gains format channels frames s v) us) _)

@@ -1,4 +1,4 @@
--- The samples written, over any block calls: sample n is output n + 1,143, and zeros follow the input. Assumes nothing.
+-- The samples written, over any block calls of one channel: sample n is output n + 1,143, and zeros follow the input. Assumes nothing.
 use mathlib.Core.Path.{_≡_, refl, sym, ap, _∙_, fun-ext}
 use mathlib.Core.List.{List, [], _∷_, _++_}
 use Prim.Native.Nat.{ℕ, zero, suc, _+_, _-_, _*_, _≤_, _<_}
@@ -51,7 +51,7 @@ carried-same gains (c ∷ cs) s n m h = by (decLt n (length (c .input))) (carrie
     by (no l) rest = carried-later c cs n m (omega arith) ∙ rest (omega (arith, length-append (c .input) (joined cs)))
 
 -- zeros that follow are what the signal has anyhow
-zeros-after : (xs : List ℤ) (k n : ℕ) → signalOf (xs ++ replicate k (pos 0)) n ≡ signalOf xs n
+pub zeros-after : (xs : List ℤ) (k n : ℕ) → signalOf (xs ++ replicate k (pos 0)) n ≡ signalOf xs n
 zeros-after [] zero n = refl
 zeros-after [] (suc k) zero = refl
 zeros-after [] (suc k) (suc n) = zeros-after [] k n
@@ -76,23 +76,23 @@ unity-output gains x each n lo hi =
 
 -- ---- the theorem
 
-module _ (gains xs : List ℤ) (cs : List Call) (all : AllAccepted (prepared bands) cs) (same : SameGains gains cs) (fed : joined cs ≡ followed xs) where
+module _ (gains xs : List ℤ) (cs : List Call) (all : AllAccepted (prepared bands 1) cs) (same : SameGains gains cs) (fed : joined cs ≡ followed xs) where
   long : length (joined cs) ≡ length xs + late
   long = ap length fed ∙ length-append xs (replicate late (pos 0)) ∙ ap (λ (k : ℕ). length xs + k) (length-replicate late (pos 0))
 
   -- sample n written is output n + 1,143 for the samples read
-  pub written-is : (n : ℕ) → n < length xs → getD (drop late (played (prepared bands) cs .output)) n (pos 0) ≡ output published bands (λ _. gainOf gains) (signalOf xs) (n + late)
+  pub written-is : (n : ℕ) → n < length xs → getD (drop late (played (prepared bands 1) cs .output)) n (pos 0) ≡ output published bands (λ _. gainOf gains) (signalOf xs) (n + late)
   written-is n h =
       let inside : late + n < length (joined cs) = omega (arith, long) in
-      getD-drop late (played (prepared bands) cs .output) n (pos 0) ∙ output-at bands (omega arith) (omega arith) cs all (late + n) inside ∙
+      getD-drop late (played (prepared bands 1) cs .output) n (pos 0) ∙ output-at bands (omega arith) (omega arith) cs all (late + n) inside ∙
       output-ext published bands (carried cs) (λ _. gainOf gains) (signalOf (joined cs)) (late + n) (λ m. carried-same gains cs same (late + n) m inside) ∙
       ap (λ (x : Signal). output published bands (λ _. gainOf gains) x (late + n)) (fun-ext (λ k. ap (λ (l : List ℤ). signalOf l k) fed ∙ zeros-after xs late k)) ∙
       ap (output published bands (λ _. gainOf gains) (signalOf xs)) (add-comm late n)
 
   -- .. and as many are written as were read
-  pub written-are : drop late (played (prepared bands) cs .output) ≡ from late (length xs) (output published bands (λ _. gainOf gains) (signalOf xs))
+  pub written-are : drop late (played (prepared bands 1) cs .output) ≡ from late (length xs) (output published bands (λ _. gainOf gains) (signalOf xs))
   written-are =
-      let o = played (prepared bands) cs .output in
+      let o = played (prepared bands 1) cs .output in
       let f = output published bands (λ _. gainOf gains) (signalOf xs) in
       let all-long : length o ≡ length (joined cs) =
       ap length (whole-history bands (omega arith) (omega arith) cs all) ∙ from-long 0 (length (joined cs)) (output published bands (carried cs) (signalOf (joined cs))) in
@@ -102,7 +102,7 @@ module _ (gains xs : List ℤ) (cs : List Call) (all : AllAccepted (prepared ban
 
   -- gains of 4,096 give every sample back
   pub unity-gives-back : ((m : ℕ) → 1 ≤ m → m ≤ bands → gainOf gains m ≡ pos unity) → (n : ℕ) → n < length xs →
-      leastSample ≤ℤ signalOf xs n → signalOf xs n ≤ℤ mostSample → getD (drop late (played (prepared bands) cs .output)) n (pos 0) ≡ getD xs n (pos 0)
+      leastSample ≤ℤ signalOf xs n → signalOf xs n ≤ℤ mostSample → getD (drop late (played (prepared bands 1) cs .output)) n (pos 0) ≡ getD xs n (pos 0)
   unity-gives-back each n h lo hi = written-is n h ∙ unity-output gains (signalOf xs) each n lo hi
 
 -- ---- arguments all 0
@@ -116,6 +116,6 @@ pub all-unity : (m : ℕ) → 1 ≤ m → m ≤ bands → gainOf (replicate band
 all-unity m l h = getD-replicate bands (m - 1) (pos unity) (pos 0) (omega arith)
 
 -- .. and give every sample in range back
-pub noughts-give-back : (xs : List ℤ) (cs : List Call) → AllAccepted (prepared bands) cs → SameGains (replicate bands (pos unity)) cs → joined cs ≡ followed xs → (n : ℕ) → n < length xs →
-    leastSample ≤ℤ signalOf xs n → signalOf xs n ≤ℤ mostSample → getD (drop late (played (prepared bands) cs .output)) n (pos 0) ≡ getD xs n (pos 0)
+pub noughts-give-back : (xs : List ℤ) (cs : List Call) → AllAccepted (prepared bands 1) cs → SameGains (replicate bands (pos unity)) cs → joined cs ≡ followed xs → (n : ℕ) → n < length xs →
+    leastSample ≤ℤ signalOf xs n → signalOf xs n ≤ℤ mostSample → getD (drop late (played (prepared bands 1) cs .output)) n (pos 0) ≡ getD xs n (pos 0)
 noughts-give-back xs cs all same fed = unity-gives-back (replicate bands (pos unity)) xs cs all same fed all-unity

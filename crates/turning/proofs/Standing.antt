@@ -2,7 +2,7 @@
 use mathlib.Core.Path.{_≡_, sym, ap, subst, _∙_}
 use mathlib.Core.List.{List, [], _∷_, _++_}
 use Prim.Native.Nat.{ℕ, _+_, _-_, _*_, _≤_, min}
-use native.Mathlib.Nat.{mul-le-mul-right, zero-add}
+use native.Mathlib.Nat.{mul-le-mul-right, mul-le-mul-left, zero-add}
 use native.Mathlib.Omega.{arith}
 use mir.Syntax.{w64}
 use mir.Val.{Fits}
@@ -10,13 +10,13 @@ use lib.ListN.{length, take, drop, replicate, length-append, length-take, length
 use lib.Seq.{take-append-le, length-take-le}
 use lib.IntN.{ℤ}
 use Rattle.answers.specs.Unit.{blockLimit, largestData}
-use Rattle.samples.specs.Format.{sizeOf}
+use Rattle.samples.specs.Channels.{countOf}
 use Rattle.fields.specs.Bytes as fields
 use Rattle.blocks.specs.declared.block.Equalised.the-variants.{Bytes}
 use Rattle.eqfile.specs.declared.turn.Turn.{Turn}
 use Rattle.eqfile.specs.Turn.{fedInAll, turnOf}
-use Rattle.eqfile.proofs.Turns.{Bounds, bounds, few-bytes}
-use Rattle.runs.specs.Program.{State, fresh, Follows, handed, turnAt, blockDone, next, fromOf, Fetched}
+use Rattle.eqfile.proofs.Turns.{Bounds, bounds, few-bytes, few-channels}
+use Rattle.runs.specs.Program.{State, fresh, Follows, handed, frameBytes, turnAt, blockDone, next, fromOf, Fetched}
 use Rattle.runs.proofs.BlockCalls.{read-within, read-is}
 use Rattle.runs.proofs.OneMore.{after-more, followed-more, fetched-more, at-within}
 use Rattle.runs.proofs.Starting.{few-enough}
@@ -27,29 +27,35 @@ use Rattle.turning.specs.Running.{stateAt, Running, Came, Further, Ended
 use Rattle.turning.proofs.Storing.{planned}
 
 module _ {job : Job} {gains : List ℤ} {front : List ℕ} {place : Place} {memory : List ℤ} (run : Running job gains front place memory) where
-  few : 3 * job .samples ≤ largestData
+  few : 3 * (countOf (job .channels) * job .frames) ≤ largestData
   few = few-enough (run .started)
 
-  at-most : place .at ≤ fedInAll (job .samples)
+  few-frames : job .frames ≤ largestData
+  few-frames = omega (arith, few, mul-le-mul-right (job .frames) (few-channels (job .channels) .0))
+
+  at-most : place .at ≤ fedInAll (job .frames)
   at-most =
-      subst (λ (s : State). s .at ≤ fedInAll (job .samples)) (sym (run .stands))
-      (at-within gains (job .format) (job .samples) fresh (run .pieces) (omega arith))
+      subst (λ (s : State). s .at ≤ fedInAll (job .frames)) (sym (run .stands))
+      (at-within gains (job .format) (job .channels) (job .frames) (fresh (job .channels)) (run .pieces) (omega arith))
 
   -- a block more can be counted
   pub at-fits : (n : ℕ) → n ≤ blockLimit → Fits w64 (place .at + n)
-  at-fits n h = omega (arith, at-most, few)
+  at-fits n h = omega (arith, at-most, few-frames)
 
-  read-most : place .read ≤ 3 * job .samples
+  read-most : place .read ≤ 3 * (countOf (job .channels) * job .frames)
   read-most =
-      let most : place .read ≤ sizeOf (job .format) * min (place .at) (job .samples) =
-      subst (λ (s : State). s .read ≤ sizeOf (job .format) * min (s .at) (job .samples)) (sym (run .stands))
-      (read-within gains (job .format) (job .samples) fresh (run .pieces) (omega arith) (run .followed)) in
-      let own : sizeOf (job .format) * min (place .at) (job .samples) ≤ 3 * min (place .at) (job .samples) = mul-le-mul-right (min (place .at) (job .samples)) (few-bytes (job .format) .1) in
+      let most : place .read ≤ frameBytes (job .format) (job .channels) * min (place .at) (job .frames) =
+      subst (λ (s : State). s .read ≤ frameBytes (job .format) (job .channels) * min (s .at) (job .frames)) (sym (run .stands))
+      (read-within gains (job .format) (job .channels) (job .frames) (fresh (job .channels)) (run .pieces) (omega arith) (run .followed)) in
+      let count = countOf (job .channels) in
+      let fed = min (place .at) (job .frames) in
+      let own : frameBytes (job .format) (job .channels) * fed ≤ count * 3 * fed = mul-le-mul-right fed (mul-le-mul-left count (few-bytes (job .format) .1)) in
+      let all : count * 3 * fed ≤ count * 3 * job .frames = mul-le-mul-left (count * 3) (omega arith) in
       omega arith
 
-  module _ {turn : Turn} (is : turn ≡ turnOf (sizeOf (job .format)) (job .samples) (place .at) (place .read)) where
-    pub limits : Bounds (job .samples) (place .at) turn
-    limits = bounds (job .format) (job .samples) (place .at) (place .read) turn is
+  module _ {turn : Turn} (is : turn ≡ turnOf (countOf (job .channels)) (frameBytes (job .format) (job .channels)) (job .frames) (place .at) (place .read)) where
+    pub limits : Bounds (countOf (job .channels)) (job .frames) (place .at) turn
+    limits = bounds (job .format) (job .channels) (job .frames) (place .at) (place .read) turn is
 
     pub read-fits : (got : ℕ) → got ≤ turn .wanted → Fits w64 (place .read + got)
     read-fits got h = omega (arith, limits .fed-most, limits .wanted-most, read-most, few)
@@ -91,7 +97,7 @@ module _ {job : Job} {gains : List ℤ} {front : List ℕ} {place : Place} {memo
 
 -- a turn for which bytes came leaves the run further on
 pub further : {job : Job} {gains : List ℤ} {front : List ℕ} {place : Place} {memory after′ : List ℤ} {turn : Turn} {piece : List ℕ} (got : ℕ) →
-    (came : Came job gains front place memory turn piece) → length piece ≡ got → after′ ≡ blockDone gains (job .format) (job .samples) (stateAt place memory) piece .lent .0 →
+    (came : Came job gains front place memory turn piece) → length piece ≡ got → after′ ≡ blockDone gains (job .format) (job .channels) (job .frames) (stateAt place memory) piece .lent .0 →
     Further job gains front place (On (record { at = place .at + turn .fed; read = place .read + got })) after′
 further {job} {gains} {front} {place} {memory} {after′} {turn} {piece} got came long e = (
   record {
@@ -99,15 +105,15 @@ further {job} {gains} {front} {place} {memory} {after′} {turn} {piece} got cam
     started = run .started;
     pieces = run .pieces ++ piece ∷ [];
     followed =
-        followed-more gains (job .format) (job .samples) fresh (run .pieces) piece (run .followed)
-        (subst (λ (s : State). Follows (turnAt (job .format) (job .samples) s) piece) (run .stands) (subst (λ (t : Turn). Follows t piece) (came .turn-is) (came .follows)));
+        followed-more gains (job .format) (job .channels) (job .frames) (fresh (job .channels)) (run .pieces) piece (run .followed)
+        (subst (λ (s : State). Follows (turnAt (job .format) (job .channels) (job .frames) s) piece) (run .stands) (subst (λ (t : Turn). Follows t piece) (came .turn-is) (came .follows)));
     fetched =
-        fetched-more gains (job .format) (job .samples) front (job .start) fresh (run .pieces) piece (run .fetched)
-        (subst (λ (s : State). Fetched front (fromOf front (job .start) (s .at)) (turnAt (job .format) (job .samples) s .wanted) piece) (run .stands)
+        fetched-more gains (job .format) (job .channels) (job .frames) front (job .start) (fresh (job .channels)) (run .pieces) piece (run .fetched)
+        (subst (λ (s : State). Fetched front (fromOf front (job .start) (s .at)) (turnAt (job .format) (job .channels) (job .frames) s .wanted) piece) (run .stands)
         (subst (λ (t : Turn). Fetched front (fromOf front (job .start) (place .at)) (t .wanted) piece) (came .turn-is) (came .fetched)));
     stands =
         (λ i. record { at = place .at + came .turn-is i .fed; read = place .read + sym long i; memory = e i }) ∙
-        ap (λ (s : State). next gains (job .format) (job .samples) s piece) (run .stands) ∙ sym (after-more gains (job .format) (job .samples) fresh (run .pieces) piece);
+        ap (λ (s : State). next gains (job .format) (job .channels) (job .frames) s piece) (run .stands) ∙ sym (after-more gains (job .format) (job .channels) (job .frames) (fresh (job .channels)) (run .pieces) piece);
   },
   λ h. omega (arith, planned came .fed-some h),
 )
@@ -116,14 +122,14 @@ further {job} {gains} {front} {place} {memory} {after′} {turn} {piece} got cam
     run = came .running
 
 -- all is fed: the run has ended by its plan
-pub ended : (job : Job) (gains : List ℤ) (front : List ℕ) (place : Place) (memory : List ℤ) → Running job gains front place memory → fedInAll (job .samples) ≤ place .at →
+pub ended : (job : Job) (gains : List ℤ) (front : List ℕ) (place : Place) (memory : List ℤ) → Running job gains front place memory → fedInAll (job .frames) ≤ place .at →
     Ended job gains front (place .read)
 ended job gains front place memory run h =
     record {
       rate = run .rate;
       started = run .started;
       pieces = run .pieces;
-      by-plan = (run .followed, subst (λ (s : State). fedInAll (job .samples) ≤ s .at) (run .stands) h);
+      by-plan = (run .followed, subst (λ (s : State). fedInAll (job .frames) ≤ s .at) (run .stands) h);
       fetched = run .fetched;
-      read-is = ap (λ (s : State). s .read) (run .stands) ∙ read-is gains (job .format) (job .samples) fresh (run .pieces) ∙ zero-add (length (handed (run .pieces)));
+      read-is = ap (λ (s : State). s .read) (run .stands) ∙ read-is gains (job .format) (job .channels) (job .frames) (fresh (job .channels)) (run .pieces) ∙ zero-add (length (handed (run .pieces)));
     }

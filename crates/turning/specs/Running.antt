@@ -20,16 +20,16 @@ stateAt place memory = record { at = place .at; read = place .read; memory = mem
 -- rules 10.10, 10.11: a run has started, and after some turns by the plan, whose bytes came from the front and standard input, it stands at a place with a memory
 pub record Running (job : Job) (gains : List ℤ) (front : List ℕ) (place : Place) (memory : List ℤ) : Type 0 where
   pub rate : ℕ
-  pub started : Started gains front rate (job .format) (job .samples) (job .start)
+  pub started : Started gains front rate (job .format) (job .channels) (job .frames) (job .start)
   pub pieces : List (List ℕ)
-  pub followed : Followed gains (job .format) (job .samples) fresh pieces
-  pub fetched : AllFetched gains (job .format) (job .samples) front (job .start) fresh pieces
-  pub stands : stateAt place memory ≡ after gains (job .format) (job .samples) fresh pieces
+  pub followed : Followed gains (job .format) (job .channels) (job .frames) (fresh (job .channels)) pieces
+  pub fetched : AllFetched gains (job .format) (job .channels) (job .frames) front (job .start) (fresh (job .channels)) pieces
+  pub stands : stateAt place memory ≡ after gains (job .format) (job .channels) (job .frames) (fresh (job .channels)) pieces
 
 -- rule 10.11: .. and these bytes came for its next turn
 pub record Came (job : Job) (gains : List ℤ) (front : List ℕ) (place : Place) (memory : List ℤ) (turn : Turn) (piece : List ℕ) : Type 0 where
   pub running : Running job gains front place memory
-  pub turn-is : turn ≡ turnAt (job .format) (job .samples) (stateAt place memory)
+  pub turn-is : turn ≡ turnAt (job .format) (job .channels) (job .frames) (stateAt place memory)
   pub follows : Follows turn piece
   pub fetched : Fetched front (fromOf front (job .start) (place .at)) (turn .wanted) piece
 
@@ -40,18 +40,18 @@ pub record Due (job : Job) (gains : List ℤ) (front : List ℕ) (bytes : List �
   pub turn : Turn
   pub piece : List ℕ
   pub came : Came job gains front place memory turn piece
-  pub is : bytes ≡ blockDone gains (job .format) (job .samples) (stateAt place memory) piece .lent .1
+  pub is : bytes ≡ blockDone gains (job .format) (job .channels) (job .frames) (stateAt place memory) piece .lent .1
 
 -- rule 10.10: a turn leaves a run that has fed more
 abbrev pub Further : Job → List ℤ → List ℕ → Place → Turned → List ℤ → Type 0
-Further job gains front place (On further) memory = Running job gains front further memory × (place .at < fedInAll (job .samples) → place .at < further .at)
+Further job gains front place (On further) memory = Running job gains front further memory × (place .at < fedInAll (job .frames) → place .at < further .at)
 Further job gains front place OutputFailed memory = Unit {0}
 
 -- rule 10.13: a run has ended by its plan, and so many bytes were read
 pub record Ended (job : Job) (gains : List ℤ) (front : List ℕ) (read : ℕ) : Type 0 where
   pub rate : ℕ
-  pub started : Started gains front rate (job .format) (job .samples) (job .start)
+  pub started : Started gains front rate (job .format) (job .channels) (job .frames) (job .start)
   pub pieces : List (List ℕ)
-  pub by-plan : ByPlan gains (job .format) (job .samples) fresh pieces
-  pub fetched : AllFetched gains (job .format) (job .samples) front (job .start) fresh pieces
+  pub by-plan : ByPlan gains (job .format) (job .channels) (job .frames) (fresh (job .channels)) pieces
+  pub fetched : AllFetched gains (job .format) (job .channels) (job .frames) front (job .start) (fresh (job .channels)) pieces
   pub read-is : read ≡ length (handed pieces)

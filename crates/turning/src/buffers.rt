@@ -1,16 +1,20 @@
 // The buffers of a run.
 use answers::unit::BLOCK_LIMIT;
+use samples::Channels;
 ghost use mathlib.Core.Path.{_≡_};
 ghost use Prim.Native.Nat.{_*_};
 ghost use lib.ListN.{length, replicate};
 ghost use Rattle.answers.specs.Unit.{blockLimit};
+ghost use Rattle.samples.specs.Channels.{countOf};
 ghost use Rattle.octave.specs.Memory.{memoryLength};
 ghost use Rattle.arguments.specs.Arguments.{bands};
 
 // Three bytes for each sample of a block.
 const BYTES: usize = 3 * BLOCK_LIMIT;
-// The memory length of eight bands.
-const MEMORY: usize = 8066;
+// The memory length of eight bands and one channel.
+const ONE: usize = 8067;
+// .. and of two channels.
+const TWO: usize = 16131;
 
 // The samples of one block.
 pub fn samples() -> [i32; BLOCK_LIMIT]
@@ -26,9 +30,19 @@ pub fn bytes() -> [u8; BYTES]
     [0; BYTES]
 }
 
-// The line memory.
-pub fn memory() -> [i32; MEMORY]
-    ensures { λ r. ⌜ memoryLength bands ≡ length r ⌝ }
+// The places for the line memory of two channels.
+pub fn memory() -> [i32; TWO]
+    ensures { λ r. ⌜ memoryLength bands 2 ≡ length r ⌝ }
 {
-    [0; MEMORY]
+    [0; TWO]
+}
+
+// How many of them a file's channels take.
+pub fn places(channels: Channels) -> usize
+    ensures { λ r. ⌜ r ≡ memoryLength bands (countOf channels) ⌝ }
+{
+    match channels {
+        Channels::One => ONE,
+        Channels::Two => TWO,
+    }
 }

@@ -1,13 +1,15 @@
 // What standard output is handed. No other file names it. Each call requires that the bytes are those of the run.
 use crate::place::Job;
+use samples::Channels;
 ghost use mathlib.Core.Path.{_≡_};
 ghost use Prim.Native.Nat.{_*_};
+ghost use Rattle.samples.specs.Channels.{countOf};
 ghost use Rattle.wave_writer.specs.Header.{header};
 ghost use Rattle.turning.specs.Running.{Due};
 
-// The header of so many samples. Answers whether standard output took it.
-pub fn hand_header(bytes: &[u8], rate: u32, samples: u32) -> bool
-    requires { ⌜ now bytes ≡ header rate (3 * samples) ⌝ }
+// The header of so many frames. Answers whether standard output took it.
+pub fn hand_header(bytes: &[u8], rate: u32, channels: Channels, frames: u32) -> bool
+    requires { ⌜ now bytes ≡ header rate (3 * (countOf channels * frames)) (countOf channels) ⌝ }
 {
     io::write_all(libc::STDOUT_FILENO, bytes)
 }

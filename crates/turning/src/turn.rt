@@ -6,6 +6,7 @@ use crate::place::Job;
 use crate::place::Place;
 use blocks::Equalised;
 use eqfile::Turn;
+use samples::channel_count;
 ghost use mathlib.Core.Path.{_≡_};
 ghost use Rattle.blocks.specs.declared.block.Equalised.the-variants.{Bytes, Refused};
 ghost use Rattle.runs.specs.Program.{blockDone};
@@ -41,11 +42,14 @@ fn put(
     piece: &[u8],
 ) -> bool
     requires { ⌜ Came job (now gains) (now front) place (now memory) turn (now piece) ⌝ }
-    ensures { λ _. ⌜ now (memory .exit) ≡ blockDone (now (gains .entry)) (job .format) (job .samples) (stateAt place (now (memory .entry))) (now (piece .entry)) .lent .0 ⌝ }
+    ensures { λ _. ⌜ now (memory .exit) ≡ blockDone (now (gains .entry)) (job .format) (job .channels) (job .frames) (stateAt place (now (memory .entry))) (now (piece .entry)) .lent .0 ⌝ }
 {
     let mut input = buffers::samples();
     let mut stored = buffers::bytes();
-    let fed = turn.fed;
+    let channels = job.channels;
+    let sides = channel_count(channels) as usize;
+    let fed = sides * turn.fed;
+    let skipped = sides * turn.skipped;
     let written = turn.written;
     let format = job.format;
     eqfile::samples_from(piece, format, &mut input[..fed]);
@@ -53,7 +57,7 @@ fn put(
         memory,
         gains,
         &input[..fed],
-        turn.skipped,
+        skipped,
         &mut stored[..written],
     ));
     output::hand(&stored[..n], job, gains, front)
@@ -65,7 +69,8 @@ pub fn one_turn(job: Job, gains: &[i32], front: &[u8], place: Place, memory: &mu
     ensures { λ r. ⌜ Further job (now (gains .entry)) (now (front .entry)) place r (now (memory .exit)) ⌝ }
 {
     let format = job.format;
-    let turn = eqfile::next_turn(format, job.samples, place.at, place.read);
+    let channels = job.channels;
+    let turn = eqfile::next_turn(format, channels, job.frames, place.at, place.read);
     let mut bytes = buffers::bytes();
     let wanted = turn.wanted;
     let from = input::from(front, job.start, place.at);

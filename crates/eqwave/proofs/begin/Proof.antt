@@ -16,7 +16,7 @@ run-requires c κs =
     let call = c .before .before .before in
     let s = call .before .before in
     let a = s .args in
-    started (s .pre .all-taken .texts) (replicate bands (pos 0)) (now (a .gains)) (a .arguments) (now (a .front)) (r .0 .0) (r .0 .1 .0) (r .0 .1 .1 .0) (r .0 .1 .1 .1 .0) refl
+    started (s .pre .all-taken .texts) (replicate bands (pos 0)) (now (a .gains)) (a .arguments) (now (a .front)) (r .0 .0) (r .0 .1 .0) (r .0 .1 .1 .0) (r .0 .1 .1 .1 .0) (r .0 .1 .1 .1 .1 .0) refl
     (s .pre .few) (s .pre .all-taken .is) (sym (ap startAnswer (r .1)) ∙ call .begin .ensures)
 
 pub begin-spec : {M : Type 1} → statement M

@@ -15,20 +15,26 @@ from e = sym (ap (λ (r : Reading). planOf (readAnswer r)) e)
 
 returns : tie.Need-returns
 returns c =
-    let block = c .before in
+    let count = c .before in
+    let block = count .before in
     let read = block .before .before .reading .given in
-    too-long (read .0 .0) (read .0 .1 .0) (read .0 .1 .1 .0) (read .0 .1 .1 .1 .0) (block .bytes-each .result) (block .bytes-each .ensures .0) (omega arith)
+    let r = read .0 in
+    too-long (r .0) (r .1 .0) (r .1 .1 .0) (r .1 .1 .1 .0) (r .1 .1 .1 .1 .0) (block .frame-size .result) (count .channel-count .result) (block .frame-size .ensures .0)
+    (count .channel-count .ensures .0) (c .if1 .taken)
     ∙ from (read .1)
 
 returns-2 : tie.Need-returns-2
 returns-2 c =
-    let block = c .before in
+    let count = c .before in
+    let block = count .before in
     let read = block .before .before .reading .given in
-    to-be-written (read .0 .0) (read .0 .1 .0) (read .0 .1 .1 .0) (read .0 .1 .1 .1 .0) (block .bytes-each .result) (block .bytes-each .ensures .0) (omega arith)
+    let r = read .0 in
+    to-be-written (r .0) (r .1 .0) (r .1 .1 .0) (r .1 .1 .1 .0) (r .1 .1 .1 .1 .0) (block .frame-size .result) (count .channel-count .result) (block .frame-size .ensures .0)
+    (count .channel-count .ensures .0) (omega arith)
     ∙ from (read .1)
 
 pub plan-spec : {M : Type 1} → statement M
 plan-spec =
     tie.close
-    (tie.spec (λ c. search needs) (λ c κs. search needs) (λ c. search needs) returns (λ c. search needs) returns-2
+    (tie.spec (λ c. search needs) (λ c κs. search needs) (λ c. search needs) (λ c κs. search needs) (λ c. search needs) returns (λ c. search needs) returns-2
     (λ c. reader-refuses _ ∙ from (c .before .reading2 .given .1)))

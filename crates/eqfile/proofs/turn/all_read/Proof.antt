@@ -6,10 +6,10 @@ use Rattle.eqfile.proofs.turn.all_read.Statement.{statement}
 use Rattle.eqfile.proofs.turn.all_read.Tie as tie
 
 mul-result : tie.Need-mul-result
-mul-result c = product-fits (c .before .bytes-each .result) (c .least .result) (c .before .bytes-each .ensures .2) (omega arith)
+mul-result c = product-fits (c .before .frame-size .result) (c .least .result) (c .before .frame-size .ensures .2) (omega arith)
 
 returns : tie.Need-returns
-returns c = rw (c .before .bytes-each .ensures .0, c .least .ensures)
+returns c = rw (c .before .frame-size .ensures .0, c .least .ensures)
 
 pub all-read-spec : {M : Type 1} → statement M
 all-read-spec =

@@ -8,12 +8,12 @@ use Rattle.eqfile.proofs.turn.short.Statement.{statement}
 use Rattle.eqfile.proofs.turn.short.Tie as tie
 
 mul-left : tie.Need-mul-left
-mul-left c = product-fits (c .bytes-each .result) (c .before .args .samples) (c .bytes-each .ensures .2) (omega arith)
+mul-left c = product-fits (c .frame-size .result) (c .before .args .frames) (c .frame-size .ensures .2) (omega arith)
 
 returns : tie.Need-returns
 returns c =
     let a = c .before .before .args in
-    c .left .ensures ∙ ap (λ (s : ℕ). s * a .samples - a .read) (c .before .bytes-each .ensures .0)
+    c .left .ensures ∙ ap (λ (s : ℕ). s * a .frames - a .read) (c .before .frame-size .ensures .0)
 
 pub short-spec : {M : Type 1} → statement M
 short-spec =

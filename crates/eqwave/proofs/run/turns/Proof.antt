@@ -15,7 +15,7 @@ use Rattle.eqwave.proofs.run.turns.Tie as tie
 
 abbrev Inv-loop : tie.InvT-loop
 Inv-loop job gains front memory₀ place₀ total memory place =
-    (total ≡ fedInAll (job .samples)) × (length memory ≡ length memory₀) × Running job gains front place memory
+    (total ≡ fedInAll (job .frames)) × (length memory ≡ length memory₀) × Running job gains front place memory
 
 abbrev μ-loop : tie.MeasureT-loop
 μ-loop job gains front memory₀ place₀ total memory place = total - place .at

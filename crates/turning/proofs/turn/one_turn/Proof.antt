@@ -30,15 +30,15 @@ put-requires c κs =
     let s = t .before .before in
     piece-came (s .pre) (t .next-turn .ensures) (b .bytes .ensures) (f .fetch .result) (f .fetch .last .1 .1 .0) (f .fetch .kept .1 .1 .0) (f .fetch .ensures .1 .0) (from .from .ensures) (f .fetch .ensures .0) (f .fetch .ensures .1 .1)
 
-add-t21 : tie.Need-add-t21
-add-t21 c =
+add-t22 : tie.Need-add-t22
+add-t22 c =
     let t = c .before .before .before .before .before .before .before .before .before .before .before .before in
     let s = t .before .before in
     let l = limits (s .pre) (t .next-turn .ensures) in
-    at-fits (s .pre) _ (omega (arith, l .fed-most, l .skipped-most))
+    at-fits (s .pre) _ (omega (arith, l .fed-few, l .skipped-most))
 
-add-t22 : tie.Need-add-t22
-add-t22 c =
+add-t23 : tie.Need-add-t23
+add-t23 c =
     let f = c .before .before .before .before .before .before .before .before .before in
     let b = f .before .before .before in
     let t = b .before in
@@ -61,5 +61,5 @@ one-turn-spec =
     tie.close
     (tie.spec (λ c κs. tt) (λ c κs. tt) (λ c κs. tt) array-borrow-prefix-bytes
     (λ c. sym (length-take-le _ _ (array-borrow-prefix-bytes (c .before)))) (λ c κs. tt) array-share-prefix-bytes
-    (λ c. sym (length-take-le _ _ (array-share-prefix-bytes (c .before)))) put-requires (λ c. search needs) (λ c. search needs) add-t21 add-t22
+    (λ c. sym (length-take-le _ _ (array-share-prefix-bytes (c .before)))) put-requires (λ c. search needs) (λ c. search needs) add-t22 add-t23
     (λ c. search needs) returns-2)
