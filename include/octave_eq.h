@@ -9,7 +9,8 @@
  *   sample   int32_t, -8,388,608 to 8,388,607: 24 bits, full scale at both ends.
  *   gain     int32_t, 0 to 16,384; 4,096 is unity, so 16,384 is a factor of 4.
  *   bands    2 to 10. Gains and bands are counted from the lowest: gains[0] is the lowest band's.
- *   block    0 to 4,096 samples.
+ *   channels 1, or 2: left and right. A frame is one sample of each, left first; both sides have the same gains.
+ *   block    0 to 4,096 frames, interleaved: sample i of the left stands at place channels * i, the right's at the next.
  *
  * ANSWERS
  *   Every call returns an int64_t. An accepted call returns its answer, which is never below -8,388,608. A refusal is
@@ -34,7 +35,8 @@ extern "C" {
 enum {
     OEQ_BANDS_LEAST = 2,
     OEQ_BANDS_MOST = 10,
-    OEQ_BLOCK_MOST = 4096,
+    OEQ_CHANNELS_MOST = 2,
+    OEQ_BLOCK_MOST = 4096,  /* frames */
     OEQ_SAMPLE_LEAST = -8388608,
     OEQ_SAMPLE_MOST = 8388607,
     OEQ_GAIN_UNITY = 4096,
@@ -43,19 +45,21 @@ enum {
     OEQ_WAVE_HEADER = 44    /* what the writer makes */
 };
 
-/* The places of a line memory, for an array's length: 8,066 for eight bands, 41,474 for ten. */
-#define OEQ_MEMORY_LENGTH(bands) (2 + ((bands) - 1) * (9 << ((bands) - 1)))
+/* The places of a line memory, for an array's length: for eight bands 8,067 and, of two channels, 16,131; for ten 41,475
+   and 82,947. */
+#define OEQ_MEMORY_LENGTH(bands, channels) (3 + (channels) * ((bands) - 1) * (9 << ((bands) - 1)))
 
 /* Refusal numbers. */
 enum {
     OEQ_BAND_COUNT = 1,      /* band count not 2..10 */
-    OEQ_MEMORY_SIZE = 2,     /* memory length not that count's */
-    OEQ_MEMORY = 3,          /* memory not accepted: its count, its length or its position is wrong */
+    OEQ_MEMORY_SIZE = 2,     /* memory length not that of these counts */
+    OEQ_MEMORY = 3,          /* memory not accepted: one of its counts, its length or its position is wrong */
     OEQ_GAIN_COUNT = 4,      /* number of gains is not the band count */
     OEQ_GAIN = 5,            /* a gain not 0..16,384 */
-    OEQ_OUTPUT_LENGTH = 6,   /* output length differs from input length */
-    OEQ_TOO_LONG = 7,        /* over 4,096 samples */
-    OEQ_SAMPLE = 8,          /* a sample out of range */
+    OEQ_OUTPUT_LENGTH = 6,   /* output length differs from input length, or it is not whole frames */
+    OEQ_TOO_LONG = 7,        /* over 4,096 frames */
+    OEQ_SAMPLE = 8,          /* a sample out of range, on either side */
+    OEQ_CHANNEL_COUNT = 9,   /* channel count not 1 or 2 */
     OEQ_DECIBELS = 11,       /* no whole number of half decibels from -12 to 12 dB, or no number */
     OEQ_FACTOR = 12,         /* factor not 0 to 4, or no number */
     OEQ_BYTES_LENGTH = 18,   /* not two or three bytes; a buffer not three bytes */
@@ -64,8 +68,8 @@ enum {
     OEQ_NO_FORMAT = 22,      /* `data` before any `fmt ` */
     OEQ_WRONG_FORMAT = 23,   /* `fmt ` of another length, with a wrong value, or a second one */
     OEQ_CUT_OFF = 24,        /* a chunk header, or the contents of `fmt `, not wholly in the front */
-    OEQ_PART_SAMPLE = 25,    /* `data` length is not a multiple of the block size */
-    OEQ_WRITE_LENGTH = 26,   /* length not a multiple of 3, or above 4,294,967,259 */
+    OEQ_PART_SAMPLE = 25,    /* `data` length is not a multiple of the block size: not whole frames */
+    OEQ_WRITE_LENGTH = 26,   /* length not a multiple of 3 * channels, or above 4,294,967,259 */
     OEQ_WRITE_BUFFER = 27,   /* buffer not 44 bytes */
     OEQ_WRITE_RATE = 28      /* rate neither 44,100 nor 48,000 */
 };
@@ -91,32 +95,38 @@ static inline int64_t oeq_refusal_place(int64_t answer)
 /* ---- the equaliser ------------------------------------------------------------------------------------------------ */
 
 /*
- * The places that a line memory has for a band count: 2 + (bands - 1) * 9 * 2^(bands - 1).
+ * The places that a line memory has for these counts: 3 + channels * (bands - 1) * 9 * 2^(bands - 1).
  *
- * Returns the length. Refuses: 1 band count not 2..10.
+ *   bands      2 to 10
+ *   channels   1 or 2
+ *
+ * Returns the length. Refuses: 1 band count not 2..10; 9 channel count not 1 or 2.
  */
-int64_t oeq_memory_length(int32_t bands);
+int64_t oeq_memory_length(int32_t bands, int32_t channels);
 
 /*
- * Fills a line memory for an empty history: silence before the first sample.
+ * Fills a line memory for an empty history: silence before the first frame.
  *
  *   bands          2 to 10
+ *   channels       1 or 2; the memory keeps it, and every block through it has frames of so many samples
  *   memory         what oeq_block works in, memory_length places; whatever it held is gone
- *   memory_length  oeq_memory_length(bands)
+ *   memory_length  oeq_memory_length(bands, channels)
  *
- * Returns the delay of the output in samples, 9 * (2^(bands - 1) - 1): 1,143 for eight bands, 4,599 for ten.
- * Refuses: 1 band count not 2..10; 2 memory length not that count's.
+ * Returns the delay of the output in frames, 9 * (2^(bands - 1) - 1): 1,143 for eight bands, 4,599 for ten.
+ * Refuses: 1 band count not 2..10; 9 channel count not 1 or 2; 2 memory length not that of these counts.
  */
-int64_t oeq_prepare(int32_t bands, int32_t *memory, size_t memory_length);
+int64_t oeq_prepare(int32_t bands, int32_t channels, int32_t *memory, size_t memory_length);
 
 /*
- * Equalises a block: output[i] answers input[i]. How a signal is cut into blocks does not matter, and an empty block
- * changes no place.
+ * Equalises a block: output[i] answers input[i]. Each side is what a memory of one channel makes of that side alone. How
+ * a signal is cut into blocks does not matter, and an empty block changes no place.
  *
- *   memory   from oeq_prepare, then only changed by oeq_block. The line places may hold any numbers; it is accepted
- *            exactly when memory[0] is 2..10, the length is that count's, and memory[1] is a place of a line.
- *   gains    one for each band, 0 to 16,384, for every sample of this block; they may differ from call to call
- *   input    samples
+ *   memory   from oeq_prepare, then only changed by oeq_block. It holds the bands, the channels and the position, then
+ *            the lines of the left, then those of the right. The line places may hold any numbers; it is accepted
+ *            exactly when memory[0] is 2..10, memory[1] is 1 or 2, the length is that of these counts, and memory[2] is a
+ *            place of a line, 0 to 9 * 2^(bands - 1) - 1.
+ *   gains    one for each band, 0 to 16,384, for every frame of this block; they may differ from call to call
+ *   input    0 to 4,096 whole frames, each of memory[1] samples; input_length counts samples
  *   output   as long as input; not the same places
  *
  * Growth: a line value is at most 1.4024 times the largest of the line above it, and half a step: for ten bands below
@@ -125,9 +135,10 @@ int64_t oeq_prepare(int32_t bands, int32_t *memory, size_t memory_length);
  * value once, to the nearest with a tie away from zero, and the gain sum once; then the output is limited to the sample
  * range, and a loud sample never turns over. Scale nothing.
  *
- * Returns the number of samples written, input_length.
- * Refuses: 3 memory not accepted; 4 number of gains is not the count; 5 a gain not 0..16,384; 6 output length differs
- * from input; 7 over 4,096 samples; 8 a sample out of range.
+ * Returns the number of frames written, input_length / channels.
+ * Refuses: 3 memory not accepted; 4 number of gains is not the band count; 5 a gain not 0..16,384; 6 output length
+ * differs from input, or it is not whole frames; 7 over 4,096 frames; 8 a sample out of range, on either side: the block
+ * is refused for both.
  */
 int64_t oeq_block(int32_t *memory, size_t memory_length, const int32_t *gains, size_t gains_length,
                   const int32_t *input, size_t input_length, int32_t *output, size_t output_length);
@@ -154,31 +165,36 @@ int64_t oeq_gain_off(void);
 /* ---- WAVE --------------------------------------------------------------------------------------------------------- */
 
 /*
- * Reads the header at the front of a PCM file of one channel.
+ * Reads the header at the front of a PCM file of one or two channels.
  *
  *   front   the file's first 4,096 bytes, or the whole file if it is shorter; of more, the first 4,096 are judged
- *   found   four places, never NULL; written by an accepted call only:
+ *   found   five places, never NULL; written by an accepted call only:
  *           found[0] rate, 44,100 or 48,000 Hz; found[1] bits of a sample, 16 or 24;
- *           found[2] length of the samples in bytes; found[3] where they start, in bytes from the front's first
+ *           found[2] length of the samples in bytes; found[3] where they start, in bytes from the front's first;
+ *           found[4] channels, 1 or 2
  *
- * Returns 4, the number of places written.
+ * Returns 5, the number of places written.
  * Refuses: 21 front under 12 bytes or names wrong; then, as the chunks come: 22 `data` before any `fmt `; 23 `fmt ` of
- * another length than 16, with a wrong value, or a second one; 24 a chunk header or the contents of `fmt ` not wholly in
- * the front; 25 `data` length not a multiple of the block size.
+ * another length than 16, with a wrong value, or a second one (right are tag 1, the channels, rates and bits above, a
+ * block size of channels * bits / 8, a byte rate of rate * block size); 24 a chunk header or the contents of `fmt ` not
+ * wholly in the front; 25 `data` length not a multiple of the block size.
  */
 int64_t oeq_wave_read(const uint8_t *front, size_t front_length, uint32_t *found);
 
 /*
- * Writes the header of a 24-bit file of one channel.
+ * Writes the header of a 24-bit file of one or two channels.
  *
- *   buffer   44 bytes
- *   rate     44,100 or 48,000 Hz
- *   length   of the samples in bytes, a multiple of 3, at most 4,294,967,259
+ *   buffer     44 bytes
+ *   rate       44,100 or 48,000 Hz
+ *   length     of the samples in bytes, a multiple of 3 * channels, at most 4,294,967,259: so of two channels at most
+ *              4,294,967,256
+ *   channels   1 or 2
  *
  * Returns 44, the number of bytes written.
- * Refuses: 27 buffer not 44 bytes; 28 rate neither of the two; 26 length not a multiple of 3 or too large.
+ * Refuses: 27 buffer not 44 bytes; 28 rate neither of the two; 9 channel count not 1 or 2; 26 length not a multiple of
+ * 3 * channels or too large.
  */
-int64_t oeq_wave_write(uint8_t *buffer, size_t buffer_length, uint32_t rate, uint32_t length);
+int64_t oeq_wave_write(uint8_t *buffer, size_t buffer_length, uint32_t rate, uint32_t length, int32_t channels);
 
 /*
  * The sample in three bytes, or in two, taken times 256: two's complement, the lowest byte first.

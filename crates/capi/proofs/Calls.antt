@@ -33,11 +33,11 @@ decoded a h = decode-encode a (returnable-apart a h)
 count-decoded : (a : Answer ℕ) → Counted a → Decoded (ofCount a)
 count-decoded a h = decode-encode (ofCount a) (counted-apart a h)
 
-pub length-decoded : (bands : ℤ) → Decoded (ofCount (lengthAnswer (memoryLengthOf bands)))
-length-decoded bands = count-decoded (lengthAnswer (memoryLengthOf bands)) (length-counted bands)
+pub length-decoded : (bands channels : ℤ) → Decoded (ofCount (lengthAnswer (memoryLengthOf bands channels)))
+length-decoded bands channels = count-decoded (lengthAnswer (memoryLengthOf bands channels)) (length-counted bands channels)
 
-pub prepare-decoded : (bands : ℤ) (memory : List ℤ) → Decoded (ofCount (preparedAnswer (prepareOf bands memory .result)))
-prepare-decoded bands memory = count-decoded (preparedAnswer (prepareOf bands memory .result)) (prepare-counted bands memory)
+pub prepare-decoded : (bands channels : ℤ) (memory : List ℤ) → Decoded (ofCount (preparedAnswer (prepareOf bands channels memory .result)))
+prepare-decoded bands channels memory = count-decoded (preparedAnswer (prepareOf bands channels memory .result)) (prepare-counted bands channels memory)
 
 pub block-decoded : (memory gains input output : List ℤ) → Decoded (ofCount (blockAnswer (blockOf memory gains input output .result)))
 block-decoded memory gains input output = count-decoded (blockAnswer (blockOf memory gains input output .result)) (block-counted memory gains input output)
@@ -48,8 +48,8 @@ gain-decoded c = decoded (answerOf (commandGain c)) (gain-returnable c)
 pub read-decoded : (front : List ℕ) → Decoded (ofCount (ofFound (readOf front)))
 read-decoded front = count-decoded (ofFound (readOf front)) (read-counted front)
 
-pub write-decoded : (buffer : List ℕ) (rate size : ℕ) → Decoded (ofCount (writeAnswer (writeOf buffer rate size .result)))
-write-decoded buffer rate size = count-decoded (writeAnswer (writeOf buffer rate size .result)) (write-counted buffer rate size)
+pub write-decoded : (buffer : List ℕ) (rate size : ℕ) (channels : ℤ) → Decoded (ofCount (writeAnswer (writeOf buffer rate size channels .result)))
+write-decoded buffer rate size channels = count-decoded (writeAnswer (writeOf buffer rate size channels .result)) (write-counted buffer rate size channels)
 
 pub sample-decoded : (bytes : List ℕ) → Decoded (sampleAnswer (fromBytes bytes))
 sample-decoded bytes = decoded (sampleAnswer (fromBytes bytes)) (sample-returnable bytes)

@@ -14,16 +14,16 @@ use Rattle.answers.specs.Unit.{blockLimit}
 use Rattle.answers.proofs.Laws.{every, chosen-every, eaching}
 use Rattle.whole.proofs.Signed.{down, Diff, lit, _⊖_, _⊗_, about, read-le}
 use Rattle.octave.specs.Answer.{lengthAnswer, preparedAnswer, blockAnswer}
-use Rattle.octave.specs.Block.{blockChecks, equalised, blockOf}
-use Rattle.octave.specs.Memory.{memoryLength, countAllowed, memoryLengthOf, prepared, prepareChecks, prepareOf}
+use Rattle.octave.specs.Block.{framesOf, blockChecks, equalised, blockOf}
+use Rattle.octave.specs.Memory.{memoryLength, countAllowed, channelsAllowed, memoryLengthOf, prepared, prepareChecks, prepareOf}
 use Rattle.octave.specs.declared.block.Blocked.{Blocked}
 use Rattle.octave.specs.declared.block.Blocked.the-variants.{Written}
 use Rattle.octave.specs.declared.memory.Length.{Length}
-use Rattle.octave.specs.declared.memory.Length.the-variants.{Places, BandCount}
+use Rattle.octave.specs.declared.memory.Length.the-variants.{Places, BandCount, ChannelCount}
 use Rattle.octave.specs.declared.memory.Prepared.{Prepared}
 use Rattle.octave.specs.declared.memory.Prepared.the-variants.{Delay}
-use Rattle.octave.proofs.Layouts.{line-small, lines-small}
-use Rattle.octave.proofs.Ranges.{count-of}
+use Rattle.octave.proofs.Layouts.{line-small, memory-small}
+use Rattle.octave.proofs.Ranges.{bands-of, channels-of}
 use Rattle.gain.specs.Answer.{answerOf}
 use Rattle.gain.specs.Promise.{commandGain}
 use Rattle.gain.specs.declared.Command.{Command}
@@ -45,36 +45,37 @@ use Rattle.encoding.specs.Parts.{Returnable, Counted}
 
 -- ---- the equaliser's calls
 
-places-small : (bands : ℤ) → countAllowed bands ≡ true → memoryLength (natAbs bands) < 2 ^ 63
-places-small bands t = omega (arith, lines-small (natAbs bands) (count-of bands t .most))
+places-small : (bands channels : ℤ) → countAllowed bands ≡ true → channelsAllowed channels ≡ true → memoryLength (natAbs bands) (natAbs channels) < 2 ^ 63
+places-small bands channels t u =
+    omega (arith, memory-small (natAbs bands) (natAbs channels) (bands-of bands t .to) (channels-of channels u .to))
 
 delay-small : (bands : ℤ) → countAllowed bands ≡ true → 9 * (2 ^ (natAbs bands - 1) - 1) < 2 ^ 63
-delay-small bands t = omega (arith, line-small (natAbs bands) (count-of bands t .most))
+delay-small bands t = omega (arith, line-small (natAbs bands) (bands-of bands t .to))
 
-samples-few : (input : List ℤ) → leb (length input) blockLimit ≡ true → length input < 2 ^ 63
-samples-few input t = omega (arith, leb-true (length input) blockLimit t)
+frames-few : (memory input : List ℤ) → leb (framesOf memory input) blockLimit ≡ true → framesOf memory input < 2 ^ 63
+frames-few memory input t = omega (arith, leb-true (framesOf memory input) blockLimit t)
 
-pub length-counted : (bands : ℤ) → Counted (lengthAnswer (memoryLengthOf bands))
-length-counted bands =
-    chosen-every (Places (memoryLength (natAbs bands))) (λ (r : Length). Counted (lengthAnswer r)) (check (countAllowed bands) BandCount ∷ [])
-    (search (eaching, places-small) depth 12)
+pub length-counted : (bands channels : ℤ) → Counted (lengthAnswer (memoryLengthOf bands channels))
+length-counted bands channels =
+    chosen-every (Places (memoryLength (natAbs bands) (natAbs channels))) (λ (r : Length). Counted (lengthAnswer r))
+    (check (countAllowed bands) BandCount ∷ check (channelsAllowed channels) ChannelCount ∷ []) (search (eaching, places-small) depth 12)
 
-pub prepare-counted : (bands : ℤ) (memory : List ℤ) → Counted (preparedAnswer (prepareOf bands memory .result))
-prepare-counted bands memory =
-    every memory (prepared (natAbs bands)) (Delay (9 * (2 ^ (natAbs bands - 1) - 1))) (λ (r : Prepared). Counted (preparedAnswer r)) (prepareChecks bands memory)
-    (search (eaching, delay-small) depth 12)
+pub prepare-counted : (bands channels : ℤ) (memory : List ℤ) → Counted (preparedAnswer (prepareOf bands channels memory .result))
+prepare-counted bands channels memory =
+    every memory (prepared (natAbs bands) (natAbs channels)) (Delay (9 * (2 ^ (natAbs bands - 1) - 1))) (λ (r : Prepared). Counted (preparedAnswer r))
+    (prepareChecks bands channels memory) (search (eaching, delay-small) depth 12)
 
 pub block-counted : (memory gains input output : List ℤ) → Counted (blockAnswer (blockOf memory gains input output .result))
 block-counted memory gains input output =
-    every (memory, output) (equalised memory gains input) (Written (length input)) (λ (r : Blocked). Counted (blockAnswer r)) (blockChecks memory gains input output)
-    (search (eaching, samples-few) depth 20)
+    every (memory, output) (equalised memory gains input) (Written (framesOf memory input)) (λ (r : Blocked). Counted (blockAnswer r))
+    (blockChecks memory gains input output) (search (eaching, frames-few) depth 20)
 
 -- ---- the header's writer and the codec
 
-pub write-counted : (buffer : List ℕ) (rate size : ℕ) → Counted (writeAnswer (writeOf buffer rate size .result))
+pub write-counted : (buffer : List ℕ) (rate size : ℕ) (channels : ℤ) → Counted (writeAnswer (writeOf buffer rate size channels .result))
 unfolding writeOf
-write-counted buffer rate size =
-    every buffer (header rate size) (writer.the-variants.Header 44) (λ (r : writer.Written). Counted (writeAnswer r)) (writeChecks buffer rate size)
+write-counted buffer rate size channels =
+    every buffer (header rate size (natAbs channels)) (writer.the-variants.Header 44) (λ (r : writer.Written). Counted (writeAnswer r)) (writeChecks buffer rate size channels)
     (search eaching depth 12)
 
 pub put-counted : (z : ℤ) (buffer : List ℕ) → Counted (putAnswer (toBytes z buffer .result))

@@ -14,17 +14,17 @@ ghost use Rattle.encoding.specs.Answers.{ofCount, Returned};
 ghost use Rattle.encoding.specs.Encode.{encode};
 
 #[no_mangle]
-pub extern "C" fn oeq_memory_length(bands: i32) -> i64
-    ensures { λ r. ⌜ r ≡ encode (ofCount (lengthAnswer (memoryLengthOf bands))) ⌝ }
+pub extern "C" fn oeq_memory_length(bands: i32, channels: i32) -> i64
+    ensures { λ r. ⌜ r ≡ encode (ofCount (lengthAnswer (memoryLengthOf bands channels))) ⌝ }
 {
-    count(length_parts(memory_length(bands)))
+    count(length_parts(memory_length(bands, channels)))
 }
 
 #[no_mangle]
-pub extern "C" fn oeq_prepare(bands: i32, memory: &mut [i32]) -> i64
-    ensures { λ r. ⌜ Returned (λ a. ofCount (preparedAnswer a)) (prepareOf bands (now (memory .entry))) r (now (memory .exit)) ⌝ }
+pub extern "C" fn oeq_prepare(bands: i32, channels: i32, memory: &mut [i32]) -> i64
+    ensures { λ r. ⌜ Returned (λ a. ofCount (preparedAnswer a)) (prepareOf bands channels (now (memory .entry))) r (now (memory .exit)) ⌝ }
 {
-    count(prepared_parts(prepare(bands, memory)))
+    count(prepared_parts(prepare(bands, channels, memory)))
 }
 
 #[no_mangle]

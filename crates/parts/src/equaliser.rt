@@ -12,6 +12,7 @@ pub fn length_parts(answer: Length) -> CountParts
     match answer {
         Length::Places(n) => CountParts(0, 0, n),
         Length::BandCount => CountParts(1, 0, 0),
+        Length::ChannelCount => CountParts(9, 0, 0),
     }
 }
 
@@ -21,6 +22,7 @@ pub fn prepared_parts(answer: Prepared) -> CountParts
     match answer {
         Prepared::Delay(t) => CountParts(0, 0, t),
         Prepared::BandCount => CountParts(1, 0, 0),
+        Prepared::ChannelCount => CountParts(9, 0, 0),
         Prepared::MemoryLength => CountParts(2, 0, 0),
     }
 }
@@ -34,6 +36,7 @@ pub fn block_parts(answer: Blocked) -> CountParts
         Blocked::GainCount => CountParts(4, 0, 0),
         Blocked::Gain => CountParts(5, 0, 0),
         Blocked::OutputLength => CountParts(6, 0, 0),
+        Blocked::PartFrame => CountParts(6, 0, 0),
         Blocked::TooLong => CountParts(7, 0, 0),
         Blocked::Sample => CountParts(8, 0, 0),
     }

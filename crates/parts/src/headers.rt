@@ -14,9 +14,10 @@ pub fn read_parts(answer: Reading) -> CountParts
         Reading::Accepted {
             rate: _,
             format: _,
+            channels: _,
             length: _,
             start: _,
-        } => CountParts(0, 0, 4),
+        } => CountParts(0, 0, 5),
         Reading::Refused(refusal) => CountParts(wave::number(refusal), 0, 0),
     }
 }
@@ -28,6 +29,7 @@ pub fn write_parts(answer: Written) -> CountParts
         Written::Header(n) => CountParts(0, 0, n),
         Written::WrongBuffer => CountParts(27, 0, 0),
         Written::WrongRate => CountParts(28, 0, 0),
+        Written::WrongChannels => CountParts(9, 0, 0),
         Written::WrongLength => CountParts(26, 0, 0),
     }
 }

@@ -1,5 +1,5 @@
 -- `equaliser::oeq_memory_length` meets its contract: the library call's answer, encoded. Assumes nothing.
-use mathlib.Core.Path.{ap, _∙_}
+use mathlib.Core.Path.{ap, ap₂, _∙_}
 use borrow.Author.Needs.{needs}
 use mir.Facts.{toZ-ofZ}
 use Rattle.octave.specs.Answer.{lengthAnswer}
@@ -13,14 +13,14 @@ returns : tie.Need-returns
 returns c =
     let call = c .before .before in
     let s = call .before in
-    count-is (ap lengthAnswer (call .memory-length .ensures ∙ ap memoryLengthOf (toZ-ofZ (s .fits .bands)))) (length-counted (s .args .bands))
+    count-is (ap lengthAnswer (call .memory-length .ensures ∙ ap₂ memoryLengthOf (toZ-ofZ (s .fits .bands)) (toZ-ofZ (s .fits .channels)))) (length-counted (s .args .bands) (s .args .channels))
     (c .before .length-parts .ensures) (c .count .ensures) (c .count .ok)
 
 count-requires : tie.Need-count-requires
 count-requires c κs =
     let call = c .before in
     let s = call .before in
-    count-fits (ap lengthAnswer (call .memory-length .ensures ∙ ap memoryLengthOf (toZ-ofZ (s .fits .bands)))) (length-counted (s .args .bands))
+    count-fits (ap lengthAnswer (call .memory-length .ensures ∙ ap₂ memoryLengthOf (toZ-ofZ (s .fits .bands)) (toZ-ofZ (s .fits .channels)))) (length-counted (s .args .bands) (s .args .channels))
     (c .length-parts .ensures)
 
 pub oeq-memory-length-spec : {M : Type 1} → statement M

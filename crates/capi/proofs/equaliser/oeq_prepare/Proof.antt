@@ -13,15 +13,15 @@ returns : tie.Need-returns
 returns c =
     let call = c .before .before .before in
     let s = call .before .before in
-    lent-returned preparedAnswer {o = prepareOf (s .args .bands) (now (s .args .memory))} (rw (toZ-ofZ (s .fits .bands)) at (call .prepare .ensures))
-    (prepare-counted (s .args .bands) (now (s .args .memory))) (c .before .prepared-parts .ensures) (c .count .ensures) (c .count .ok)
+    lent-returned preparedAnswer {o = prepareOf (s .args .bands) (s .args .channels) (now (s .args .memory))} (rw (toZ-ofZ (s .fits .bands), toZ-ofZ (s .fits .channels)) at (call .prepare .ensures))
+    (prepare-counted (s .args .bands) (s .args .channels) (now (s .args .memory))) (c .before .prepared-parts .ensures) (c .count .ensures) (c .count .ok)
 
 count-requires : tie.Need-count-requires
 count-requires c κs =
     let call = c .before .before in
     let s = call .before .before in
-    lent-fits preparedAnswer {o = prepareOf (s .args .bands) (now (s .args .memory))} (rw (toZ-ofZ (s .fits .bands)) at (call .prepare .ensures))
-    (prepare-counted (s .args .bands) (now (s .args .memory))) (c .prepared-parts .ensures)
+    lent-fits preparedAnswer {o = prepareOf (s .args .bands) (s .args .channels) (now (s .args .memory))} (rw (toZ-ofZ (s .fits .bands), toZ-ofZ (s .fits .channels)) at (call .prepare .ensures))
+    (prepare-counted (s .args .bands) (s .args .channels) (now (s .args .memory))) (c .prepared-parts .ensures)
 
 pub oeq-prepare-spec : {M : Type 1} → statement M
 oeq-prepare-spec = tie.close (tie.spec (λ c κs. search needs) (λ c κs. search needs) count-requires (λ c. search needs) returns)

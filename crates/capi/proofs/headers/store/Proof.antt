@@ -16,8 +16,9 @@ cast-found c =
 
 returns : tie.Need-returns
 returns c =
-    let s = c .before .before .before .before in
-    rw (c .bits .ensures) (sym (ap (λ (r : Reading). foundAfter (readAnswer r) (now (s .args .found))) (c .before .before .answer .given .1)))
+    let answer = c .before .before .before in
+    let s = answer .before .before in
+    rw (c .before .bits .ensures, c .channel-count .ensures .0) (sym (ap (λ (r : Reading). foundAfter (readAnswer r) (now (s .args .found))) (answer .answer .given .1)))
 
 returns-2 : tie.Need-returns-2
 returns-2 c =
@@ -34,6 +35,8 @@ store-spec =
     (λ c. search needs)
     (λ c. search needs)
     cast-found
+    (λ c. search needs)
+    (λ c κs. search needs)
     (λ c. search needs)
     (λ c. search needs)
     returns
