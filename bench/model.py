@@ -5,7 +5,7 @@ import shutil
 import subprocess
 import sys
 
-SIDES = {"oeq": r"oeq_block|octave::|lines::", "plain": r"tree_block|step"}
+SIDES = {"oeq": r"oeq_block|\w+::", "plain": r"tree_block|step"}
 SAMPLES = 2304  # twice round the rings of eight bands
 PROCESSORS = ["skylake", "znver2"]
 MISS = 16  # cycles

@@ -1,6 +1,6 @@
-"""What the program adds to its block calls: `program.py BLOCK COMMAND..`, BLOCK the program of bench/block.c, which is timed in turn with it at
-eight bands, since a machine is not as fast at all times. Two files of noise, a short and a long one: the start of the program falls out of the
-difference. Words before the program's name, an emulator's, stand before both."""
+"""What the program adds to its block calls, of one channel and of two: `program.py BLOCK COMMAND..`, BLOCK the program of bench/block.c, which
+is timed in turn with it at eight bands, since a machine is not as fast at all times. Two files of noise, a short and a long one: the start of the
+program falls out of the difference. Words before the program's name, an emulator's, stand before both."""
 import os
 import resource
 import statistics
@@ -12,12 +12,13 @@ sys.path.insert(0, os.path.join(os.path.dirname(os.path.abspath(__file__)), ".."
 from model.wave import file24
 
 SHORT, LONG, TURNS = 100_000, 2_100_000, 7
+COLUMN = {1: 0, 2: 3}  # of what `block` prints, by channels
 
 
-def noise(samples):
+def noise(frames, channels):
     """A file of noise."""
     file = tempfile.TemporaryFile()
-    file.write(file24(os.urandom(3 * samples)))
+    file.write(file24(os.urandom(3 * channels * frames), channels=channels))
     return file
 
 
@@ -31,18 +32,25 @@ def seconds(command, file):
     return after.ru_utime - before.ru_utime + after.ru_stime - before.ru_stime
 
 
-def block():
-    """Nanoseconds that a sample takes in `block`."""
-    return float(subprocess.run(sys.argv[2:-1] + [sys.argv[1], "8", "4096", "9"], check=True, capture_output=True, text=True).stdout.split()[0])
+def block(channels):
+    """Nanoseconds that a frame takes in `block`, in blocks as long as the program's: of 4,096 samples."""
+    command = sys.argv[2:-1] + [sys.argv[1], "8", str(4096 // channels), "9"]
+    return float(subprocess.run(command, check=True, capture_output=True, text=True).stdout.split()[COLUMN[channels]])
 
 
-command = sys.argv[2:] + "0 1 2 3 4 5 6 7".split()
-short, long = noise(SHORT), noise(LONG)
-turns = []
-for _ in range(TURNS):
-    before = block()
-    whole = 1e9 * (seconds(command, long) - seconds(command, short)) / (LONG - SHORT)
-    turns.append((whole, (before + block()) / 2))
-own = statistics.median(whole / blocks for whole, blocks in turns) - 1
-whole, blocks = (statistics.median(column) for column in zip(*turns))
-print(f"eqwave: {whole:.1f} ns a sample, its block calls {blocks:.1f}: its own part is {own:.2f} of theirs")
+def measure(channels):
+    """The program's own part, of its block calls."""
+    command = sys.argv[2:] + "0 1 2 3 4 5 6 7".split()
+    short, long = noise(SHORT, channels), noise(LONG, channels)
+    turns = []
+    for _ in range(TURNS):
+        before = block(channels)
+        whole = 1e9 * (seconds(command, long) - seconds(command, short)) / (LONG - SHORT)
+        turns.append((whole, (before + block(channels)) / 2))
+    own = statistics.median(whole / blocks for whole, blocks in turns) - 1
+    whole, blocks = (statistics.median(column) for column in zip(*turns))
+    print(f"eqwave, channels {channels}: {whole:.1f} ns a frame, its block calls {blocks:.1f}: its own part is {own:.2f} of theirs")
+
+
+for channels in (1, 2):
+    measure(channels)

@@ -1,6 +1,7 @@
 #!/usr/bin/env bash
-# The C interface from outside: the archive is built, the minimal program is held to its stored output, and the archive is
-# held to models written from the rules, on files of sox and ffmpeg among others. Prints the seed, and else only what fails. --long and --seed N are handed on.
+# The C interface from outside: the archive is built, the minimal program is held to its stored output, and the archive is held to models
+# written from the rules, of one channel and of two, on files of sox and ffmpeg among others. Prints the seed, and else only what fails.
+# --long and --seed N are handed on.
 set -euo pipefail
 cd "$(dirname "${BASH_SOURCE[0]}")/.."
 source tests/x86.sh

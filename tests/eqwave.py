@@ -11,14 +11,16 @@ import time
 
 from model.compiled import Tree
 from model.gains import GAINS
-from model.wave import LARGEST, WHOLE, chunk, file24, fmt, riff
+from model.wave import LARGEST, WHOLE, chunk, file24, fmt, read, riff, write
 
 TOP = os.path.join(os.path.dirname(os.path.abspath(__file__)), "..")
 PROGRAM = os.path.join(TOP, "eqwave")
 BUILT = os.path.join(TOP, "target", "bin", "eqwave")
 STORED = os.path.join(TOP, "crates", "eqwave")
+FILES = os.path.join(TOP, "tests", "files")
 ZERO = ["0"] * 8
-LONG_SECONDS = 300
+SIDES = (1, 2)
+LONG_SECONDS = 300  # of one channel; half as long of two
 failures = []
 cases = 0
 
@@ -45,9 +47,14 @@ def refused(name, args, source, number):
     expect(name, run(args, source), (b"", b"refused %d\n" % number))
 
 
-def reckon(args, data):
-    """What the program has to make of 24-bit samples."""
-    return TREE.outputs([GAINS[int(a)] for a in args], data)
+def reckon(args, data, channels=1):
+    """What the program has to make of frames of 24-bit samples."""
+    return TREE.outputs([GAINS[int(a)] for a in args], data, channels)
+
+
+def equalised(args, data, channels=1, rate=48000):
+    """The file that the program has to write for frames of 24-bit samples."""
+    return file24(reckon(args, data, channels), rate, channels)
 
 
 def samples(count, rng):
@@ -70,11 +77,16 @@ def widened(data):
     return b"".join(b"\0" + data[i:i + 2] for i in range(0, len(data), 2))
 
 
+def interleaved(left, right):
+    """Frames of two sides of 24-bit samples."""
+    return b"".join(left[i:i + 3] + right[i:i + 3] for i in range(0, len(left), 3))
+
+
 def stored():
     """The stored run: its arguments, its input and the model's output. It has two turns, and both read data."""
     args = ["24", "-12", "0", "7", "-1", "0", "12", "24"]
     data = random.Random(4500).randbytes(2 * 4500)
-    output = file24(reckon(args, widened(data)), 44100)
+    output = equalised(args, widened(data), rate=44100)
     return {"args": "".join(a + "\n" for a in args).encode(), "stdin": riff(fmt(44100, 16), chunk(b"data", data)), "stdout": output}
 
 
@@ -97,10 +109,11 @@ def whole_case():
 
 
 def zero_gives_back(rng):
-    for count in (0, 1, 1142, 1143, 1144, 2953, 4095, 4096, 4097, 9000, rng.randrange(20000)):
-        for rate in (44100, 48000):
-            source = file24(samples(count, rng), rate)
-            expect(f"all 0, {count} samples at {rate}", run(ZERO, source), (source, b""))
+    for channels, counts in ((1, (2953, 4095, 4096, 4097)), (2, (905, 2047, 2048, 2049, 2953, 4096))):
+        for frames in (0, 1, 1142, 1143, 1144, *counts, 9000, rng.randrange(20000)):
+            for rate in (44100, 48000):
+                source = file24(samples(channels * frames, rng), rate, channels)
+                expect(f"all 0, {frames} frames of {channels} at {rate}", run(ZERO, source), (source, b""))
     source = file24(samples(3000, rng))
     expect("-0 and 00 are 0", run(["-0", "00", "-00"] + ZERO[3:], source), (source, b""))
 
@@ -119,8 +132,8 @@ def argument_values(rng):
     data = samples(1500, rng)
     for n in range(-24, 25):
         args = [str(n)] + ZERO[1:]
-        expect(f"lowest band {n}", run(args, file24(data)), (file24(reckon(args, data)), b""))
-    expect("two digits with a nought", run(["07"] + ZERO[1:], file24(data)), (file24(reckon(["7"] + ZERO[1:], data)), b""))
+        expect(f"lowest band {n}", run(args, file24(data)), (equalised(args, data), b""))
+    expect("two digits with a nought", run(["07"] + ZERO[1:], file24(data)), (equalised(["7"] + ZERO[1:], data), b""))
 
 
 def headers():
@@ -135,7 +148,11 @@ def headers():
         ("fmt of 18 bytes", riff(chunk(b"fmt ", b"\0" * 18), data), 23),
         ("a second fmt", riff(fmt(), fmt(), data), 23),
         ("tag 3", riff(fmt(tag=3), data), 23),
-        ("two channels", riff(fmt(channels=2), data), 23),
+        ("three channels", riff(fmt(channels=3), chunk(b"data", b"\0" * 9)), 23),
+        ("no channel", riff(fmt(channels=0), data), 23),
+        ("two channels in a block of one", riff(fmt(channels=2, block=3), chunk(b"data", b"\0" * 6)), 23),
+        ("one channel in a block of two", riff(fmt(block=6), chunk(b"data", b"\0" * 6)), 23),
+        ("two channels at the byte rate of one", riff(fmt(channels=2, byte_rate=144000), chunk(b"data", b"\0" * 6)), 23),
         ("rate 96000", riff(fmt(rate=96000), data), 23),
         ("8 bits", riff(fmt(bits=8), data), 23),
         ("32 bits", riff(fmt(bits=32), data), 23),
@@ -146,52 +163,118 @@ def headers():
         ("data past 4096", riff(fmt(), pad, data), 24),
         ("4 bytes of data", riff(fmt(), chunk(b"data", b"\0" * 4)), 25),
         ("3 bytes of data in 16 bits", riff(fmt(bits=16), chunk(b"data", b"\0" * 3)), 25),
-        ("too long to be written in 24 bits", riff(fmt(), chunk(b"data", b"", LARGEST + 3)), 26),
-        ("too long to be written in 16 bits", riff(fmt(bits=16), chunk(b"data", b"", 2 * (LARGEST // 3 + 1))), 26),
+        ("one side of 24 bits", riff(fmt(channels=2), data), 25),
+        ("a frame and one side of 24 bits", riff(fmt(channels=2), chunk(b"data", b"\0" * 9)), 25),
+        ("a frame and one side of 16 bits", riff(fmt(bits=16, channels=2), chunk(b"data", b"\0" * 6)), 25),
+        ("a frame and a byte of 16 bits", riff(fmt(bits=16, channels=2), chunk(b"data", b"\0" * 5)), 25),
+        ("one side too long to be written", riff(fmt(channels=2), chunk(b"data", b"", LARGEST)), 25),
     ]:
         refused(name, ZERO, source, number)
 
 
+def longest():
+    """The longest data that can be written, and one frame more: 26. What is accepted is seen by the header, and then the pipe is closed."""
+    for channels in SIDES:
+        for bits in (16, 24):
+            frames = LARGEST // (3 * channels)
+            source = lambda count: riff(fmt(bits=bits, channels=channels), chunk(b"data", b"", channels * bits // 8 * count))
+            refused(f"one frame of {channels} too many, {bits} bits", ZERO, source(frames + 1), 26)
+            child = subprocess.Popen([PROGRAM] + ZERO, stdin=subprocess.PIPE, stdout=subprocess.PIPE, stderr=subprocess.PIPE)
+            child.stdin.write(source(frames))
+            child.stdin.close()
+            header = child.stdout.read(44)
+            child.stdout.close()
+            said = child.stderr.read()
+            child.wait(timeout=60)
+            want = write(44, 48000, 3 * channels * frames, channels), b"eqwave: standard output: Broken pipe\n"
+            expect(f"{frames} frames of {channels}, {bits} bits", (header, said), want)
+
+
 def accepted_headers(rng):
-    data = samples(2000, rng)
-    args = settings(rng)
-    want = (file24(reckon(args, data)), b"")
-    before = chunk(b"LIST", b"x" * 100) + fmt() + chunk(b"fact", b"\0" * 4)
-    expect("chunks before data", run(args, riff(before, chunk(b"data", data))), want)
-    expect("bytes after the data", run(args, file24(data) + b"LIST\x04\0\0\0abcd"), want)
-    expect("any RIFF size", run(args, riff(fmt(), chunk(b"data", data), size=0)), want)
-    pad = chunk(b"note", b"\0" * (4096 - 12 - 24 - 8 - 8))
-    expect("a header that ends at 4096", run(args, riff(fmt(), pad, chunk(b"data", data))), want)
+    for channels in SIDES:
+        data = samples(2000 * channels, rng)
+        args = settings(rng)
+        want = (equalised(args, data, channels), b"")
+        sound = fmt(channels=channels)
+        before = chunk(b"LIST", b"x" * 100) + sound + chunk(b"fact", b"\0" * 4)
+        expect(f"chunks before data, {channels}", run(args, riff(before, chunk(b"data", data))), want)
+        expect(f"bytes after the data, {channels}", run(args, file24(data, 48000, channels) + b"LIST\x04\0\0\0abcd"), want)
+        expect(f"any RIFF size, {channels}", run(args, riff(sound, chunk(b"data", data), size=0)), want)
+        pad = chunk(b"note", b"\0" * (4096 - 12 - 24 - 8 - 8))
+        expect(f"a header that ends at 4096, {channels}", run(args, riff(sound, pad, chunk(b"data", data))), want)
+
+
+def kept_files(rng):
+    """The files of tests/files: those of sox and ffmpeg, and the edge cases of the reader; but not where hours of data are said to follow."""
+    for name in sorted(name for name in os.listdir(FILES) if name.endswith(".wav")):
+        with open(os.path.join(FILES, name), "rb") as file:
+            source = file.read()
+        found, args = read(source), settings(rng)
+        if isinstance(found, int):
+            refused(name, args, source, found)
+            continue
+        rate, bits, length, start, channels = found
+        data = source[start:start + length]
+        if len(data) == length:
+            expect(name, run(args, source), (equalised(args, data if bits == 24 else widened(data), channels, rate), b""))
 
 
 def sixteen_bits(rng):
-    for count in (0, 1, 5000):
-        data = rng.randbytes(2 * count)
-        wide = widened(data)
-        source = riff(fmt(44100, 16), chunk(b"data", data))
-        expect(f"16 bits, {count} samples", run(ZERO, source), (file24(wide, 44100), b""))
+    for channels in SIDES:
+        for frames in (0, 1, 5000):
+            data = rng.randbytes(2 * channels * frames)
+            wide = widened(data)
+            source = riff(fmt(44100, 16, channels=channels), chunk(b"data", data))
+            expect(f"16 bits, {frames} frames of {channels}", run(ZERO, source), (file24(wide, 44100, channels), b""))
+            args = settings(rng)
+            expect(f"16 bits, {frames} frames of {channels}, {args}", run(args, source), (equalised(args, wide, channels, 44100), b""))
+
+
+def two_sides(rng):
+    """Each side of two is what the program makes of it alone; exchanged, equal and silent sides."""
+    for frames in (1, 904, 905, 906, 2047, 2049, 5001):
         args = settings(rng)
-        expect(f"16 bits, {count} samples, {args}", run(args, source), (file24(reckon(args, wide), 44100), b""))
+        left, right, silent = samples(frames, rng), samples(frames, rng), bytes(3 * frames)
+        alone = {side: run(args, file24(side))[0][44:] for side in (left, right)}
+        expect(f"{frames} frames, the left alone", (alone[left], b""), (reckon(args, left), b""))
+        alone[silent] = silent
+        for name, first, second in (
+            ("left and right", left, right),
+            ("exchanged", right, left),
+            ("equal", left, left),
+            ("a silent right", left, silent),
+            ("a silent left", silent, right),
+        ):
+            want = file24(interleaved(alone[first], alone[second]), channels=2)
+            expect(f"{frames} frames, {name}", run(args, file24(interleaved(first, second), channels=2)), (want, b""))
 
 
 def short_data(rng):
-    for bits in (16, 24):
-        size = bits // 8
-        for whole in (0, 1, 3, 1365, 1366, 4096, 5000):
-            for part in range(size):
-                there = rng.randbytes(size * whole + part)
-                said = size * 6000
-                source = riff(fmt(48000, bits), chunk(b"data", there, said))
-                full = [there[i:i + size] for i in range(0, size * whole, size)]
-                wide = b"".join(s if bits == 24 else b"\0" + s for s in full) + b"\0\0\0" * (6000 - whole)
-                args = settings(rng)
-                want = (file24(reckon(args, wide)), b"short %d\n" % (said - len(there)))
-                expect(f"{bits} bits short at {whole} samples and {part} bytes", run(args, source), want)
-    expect("nothing of the data", run(ZERO, riff(fmt(), chunk(b"data", b"", 6))), (file24(b"\0" * 6), b"short 6\n"))
+    """Data that breaks off anywhere in a frame: of two channels the left sample may be wholly there and the right one not."""
+    for channels, frames in ((1, (0, 1, 3, 1365, 1366, 4096, 5000)), (2, (0, 1, 675, 1013, 2047, 2048, 5000))):
+        for bits in (16, 24):
+            size = bits // 8
+            for whole in frames:
+                for part in range(channels * size):
+                    there = rng.randbytes(channels * size * whole + part)
+                    said = channels * size * 6000
+                    source = riff(fmt(48000, bits, channels=channels), chunk(b"data", there, said))
+                    full = [there[i:i + size] for i in range(0, len(there) - size + 1, size)]
+                    wide = b"".join(s if bits == 24 else b"\0" + s for s in full) + b"\0\0\0" * (6000 * channels - len(full))
+                    args = settings(rng)
+                    want = (equalised(args, wide, channels), b"short %d\n" % (said - len(there)))
+                    expect(f"{bits} bits short at {whole} frames of {channels} and {part} bytes", run(args, source), want)
+        frame = bytes(3 * channels)
+        source = riff(fmt(channels=channels), chunk(b"data", b"", len(frame)))
+        expect("nothing of the data", run(ZERO, source), (file24(frame, channels=channels), b"short %d\n" % len(frame)))
+    # a frame of 1 and -1, without the last byte of -1: the left sample stays, and eight noughts give it back
+    cut = riff(fmt(channels=2), chunk(b"data", WHOLE[44:49], 6))
+    expect("a left sample by itself", run(ZERO, cut), (file24(b"\1" + bytes(5), channels=2), b"short 1\n"))
 
 
 def slow_pipe(rng):
-    for source, step in ((WHOLE, 1), (file24(samples(700, rng)), 1), (file24(samples(20000, rng)), 997)):
+    stereo = [(file24(samples(2 * frames, rng), channels=2), step) for frames, step in ((1, 1), (701, 1), (10001, 997))]
+    for source, step in ((WHOLE, 1), (file24(samples(700, rng)), 1), (file24(samples(20000, rng)), 997), *stereo):
         child = subprocess.Popen([PROGRAM] + ZERO, stdin=subprocess.PIPE, stdout=subprocess.PIPE, stderr=subprocess.PIPE, bufsize=0)
         for i in range(0, len(source), step):
             child.stdin.write(source[i:i + step])
@@ -227,11 +310,12 @@ def memory_of(child):
         return next(int(line.split()[1]) for line in status if line.startswith("VmHWM"))
 
 
-def long_file(rng, folder):
+def long_file(rng, folder, channels):
     """Several minutes through a pipe, byte for byte; the memory after the first megabyte is the memory at the end."""
     args = settings(rng)
-    data = samples(LONG_SECONDS * 48000, rng)
-    source = file24(data)
+    seconds = LONG_SECONDS // channels
+    data = samples(seconds * 48000 * channels, rng)
+    source = file24(data, channels=channels)
     path = os.path.join(folder, "long.wav")
     began = time.time()
     with open(path, "wb") as sink:
@@ -243,9 +327,9 @@ def long_file(rng, folder):
         said = child.communicate(source[-3:])[1]
     took = time.time() - began
     with open(path, "rb") as file:
-        expect(f"{LONG_SECONDS} seconds of noise, {args}", (file.read(), said), (file24(reckon(args, data)), b""))
+        expect(f"{seconds} seconds of noise, {channels} channels, {args}", (file.read(), said), (equalised(args, data, channels), b""))
     expect("constant memory", (b"grew" if late > early + 1024 else b"", b""), (b"", b""))
-    print(f"{LONG_SECONDS} seconds of 48,000 samples took {took:.1f} s; memory {early} kB after a megabyte, {late} kB at the end")
+    print(f"{seconds} seconds of 48,000 frames of {channels} took {took:.1f} s; memory {early} kB after a megabyte, {late} kB at the end")
 
 
 def main():
@@ -267,12 +351,16 @@ def main():
         arguments()
         argument_values(rng)
         headers()
+        longest()
         accepted_headers(rng)
+        kept_files(rng)
         sixteen_bits(rng)
+        two_sides(rng)
         short_data(rng)
         slow_pipe(rng)
         output_fails(rng)
-        long_file(rng, folder)
+        for channels in SIDES:
+            long_file(rng, folder, channels)
     expect("no second build", (str(os.stat(BUILT).st_mtime_ns), ""), (str(built.st_mtime_ns), ""))
     print(f"eqwave: seed {seed}, {cases} cases, {len(failures)} differ")
     return 1 if failures else 0

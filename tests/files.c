@@ -22,10 +22,10 @@ static void show_samples(const uint8_t *data, size_t there, uint32_t bits)
     printf("\n");
 }
 
-static void show_header(uint32_t rate, uint32_t length)
+static void show_header(uint32_t rate, uint32_t length, uint32_t channels)
 {
     uint8_t header[HEADER];
-    int64_t answer = oeq_wave_write(header, HEADER, rate, length);
+    int64_t answer = oeq_wave_write(header, HEADER, rate, length, (int32_t)channels);
     if (oeq_is_refusal(answer)) {
         printf("header refused %d\n", oeq_refusal_number(answer));
         return;
@@ -38,16 +38,16 @@ static void show_header(uint32_t rate, uint32_t length)
 
 static void show_file(const char *name, const uint8_t *file, size_t got)
 {
-    uint32_t found[4];
+    uint32_t found[5];
     int64_t answer = oeq_wave_read(file, got, found);
     if (oeq_is_refusal(answer)) {
         printf("%s refused %d\n", name, oeq_refusal_number(answer));
         return;
     }
-    printf("%s %u %u %u %u\n", name, found[0], found[1], found[2], found[3]);
+    printf("%s %u %u %u %u %u\n", name, found[0], found[1], found[2], found[3], found[4]);
     size_t there = got - found[3];
     show_samples(file + found[3], found[2] < there ? found[2] : there, found[1]);
-    show_header(found[0], found[2]);
+    show_header(found[0], found[2], found[4]);
 }
 
 int main(int count, char **names)

@@ -2,9 +2,10 @@
 --cases, the cases as the program reads them: how many, and then the numbers of each, of 32 bits, the lowest byte first."""
 import struct
 import sys
-from itertools import groupby
+from itertools import cycle, groupby
+from operator import mul, ne
 
-from model.tree import LEAST, MOST, block, check_bench, memory_length, prepare, prepared, ring_length
+from model.tree import LEAST, MOST, block, check_bench, check_sides, memory_length, prepare, prepared, ring_length
 from words import told
 
 MARK = 9999999
@@ -12,7 +13,7 @@ MARK = 9999999
 
 def total(places):
     """Every place as its 32 bits, times its index modulo 1,009 and one, modulo the largest prime below 2^32."""
-    return sum(z % 2**32 * (i % 1009 + 1) for i, z in enumerate(places)) % 4294967291
+    return sum(map(mul, [z % 2**32 for z in places], cycle(range(1, 1010)))) % 4294967291
 
 
 def listed(places):
@@ -22,7 +23,7 @@ def listed(places):
 
 def compared(before, places):
     """How many places have changed, and the list."""
-    return [sum(x != y for x, y in zip(before, places)), *listed(places)]
+    return [sum(map(ne, before, places)), *listed(places)]
 
 
 # ---- cases and lines
@@ -30,7 +31,7 @@ def compared(before, places):
 cases, lines = [], []
 LENGTH, PREPARE, BLOCK = 0, 1, 2
 MEMORY, GAINS, INPUT, OUTPUT = 3, 4, 5, 6
-lists = {MEMORY: [0] * 92162, GAINS: [0] * 10, INPUT: [0] * 4097, OUTPUT: [0] * 4097}
+lists = {MEMORY: [0] * 92163, GAINS: [0] * 10, INPUT: [0] * 8194, OUTPUT: [0] * 8194}
 
 
 def case(*numbers):
@@ -77,21 +78,21 @@ def lend(name, wanted):
         start = end
 
 
-def show_length(M):
+def show_length(M, channels):
     """The memory length."""
-    case(LENGTH, code(M))
-    line("length", M, *told(memory_length(M)))
+    case(LENGTH, code(M), code(channels))
+    line("length", M, channels, *told(memory_length(M, channels)))
 
 
-def show_prepare(M, places):
+def show_prepare(M, channels, places):
     """Prepare on marked places."""
     before = [MARK] * places
     lend(MEMORY, before)
-    case(PREPARE, code(M), places)
+    case(PREPARE, code(M), code(channels), places)
     memory = list(before)
-    answer = prepare(M, memory)
+    answer = prepare(M, channels, memory)
     lists[MEMORY][:places] = memory
-    line("prepare", M, *told(answer), *compared(before, memory))
+    line("prepare", M, channels, *told(answer), *compared(before, memory))
 
 
 def show_lent(*lengths):
@@ -100,7 +101,7 @@ def show_lent(*lengths):
     case(BLOCK, *lengths)
     before = [lists[name][:n] for name, n in zip([MEMORY, GAINS, INPUT, OUTPUT], lengths)]
     memory, gains, samples, output = map(list, before)
-    line("block", len(memory), *listed(memory[:2]), *listed(gains), *listed(samples), len(output))
+    line("block", len(memory), *listed(memory[:3]), *listed(gains), *listed(samples), len(output))
     answer = block(memory, gains, samples, output)
     lists[MEMORY][: len(memory)], lists[OUTPUT][: len(output)] = memory, output
     line("", *told(answer), *compared(before[0], memory), *compared(before[3], output))
@@ -116,139 +117,192 @@ def show_block(memory, gains, samples, places):
 
 # ---- each call at its edges
 
-BEFORE = [8388607, -8388608, 100000, -1, 7, 0, 16]
+# seven frames, and two
+BEFORE = {
+    1: [8388607, -8388608, 100000, -1, 7, 0, 16],
+    2: [8388607, 3, -8388608, -8388608, 100000, 0, -1, 5, 7, -1, 0, 100000, 16, 8388607],
+}
+PAIR = {1: [1, -1], 2: [1, -7, -1, 7]}
 BOTH = [4096, 4096]
-PAIR = [1, -1]
+SIDES = (1, 2)
 
 
-def used():
-    """A memory of two bands after seven samples."""
-    memory = prepared(2)
-    assert block(memory, BOTH, BEFORE, [0] * 7) == ("written", 7)
+def used(channels):
+    """A memory of two bands after seven frames."""
+    memory = prepared(2, channels)
+    assert block(memory, BOTH, BEFORE[channels], [0] * len(BEFORE[channels])) == ("written", 7)
     return memory
 
 
-def with_place(at, value):
+def with_place(channels, at, value):
     """The same with one place changed."""
-    memory = used()
+    memory = used(channels)
     memory[at] = value
     return memory
 
 
-COUNTS = [-(2**31), -2, -1, 0, 1, 2, 3, 10, 11, 2**31 - 1]
+def with_sample(channels, at, value):
+    """Two frames with one sample changed."""
+    samples = list(PAIR[channels])
+    samples[at] = value
+    return samples
 
 
-def show_numbers():
-    """Refusals 1 to 8 at their edges, and an empty block."""
-    for M in [*COUNTS, *range(4, 10)]:
-        show_length(M)
-    for M in COUNTS:
-        show_prepare(M, 20)
-    for count in COUNTS:
-        show_block(with_place(0, count), BOTH, PAIR, 2)
-    for position in [-(2**31), -1, 0, 17, 18, 2**31 - 1]:
-        show_block(with_place(1, position), BOTH, PAIR, 2)
+ENDS = [-(2**31), 2**31 - 1]
+BANDS = [*ENDS, -2, -1, 0, 1, 2, 3, 10, 11]
+CHANNELS = [*ENDS, -1, 0, 1, 2, 3]
+
+
+def show_counts():
+    """Refusals 1 and 9 at their edges, and 1 before 9 before 2."""
+    for channels in CHANNELS:
+        for M in [1, 2, 11]:
+            show_length(M, channels)
+            for places in [3, 21, 39, 57]:
+                show_prepare(M, channels, places)
+    for channels in SIDES:
+        for M in [*BANDS, *range(4, 10)]:
+            show_length(M, channels)
+        for M in BANDS:
+            show_prepare(M, channels, memory_length(2, channels)[1])
+
+
+def show_numbers(channels):
+    """Refusals 3 to 8 at their edges, and an empty block."""
+    pair = PAIR[channels]
+    for place, values in enumerate([BANDS, CHANNELS, [*ENDS, -1, 0, 17, 18, 35, 36]]):
+        for value in values:
+            show_block(with_place(channels, place, value), BOTH, pair, len(pair))
     for gains in range(4):
-        show_block(used(), [4096] * gains, PAIR, 2)
-    for gains in ([lambda g: [g, 4096], lambda g: [4096, g]]):
-        for gain in [-(2**31), -1, 0, 16384, 16385, 2**31 - 1]:
-            show_block(used(), gains(gain), PAIR, 2)
-    for samples in ([], PAIR):
-        for places in range(4):
-            show_block(used(), BOTH, samples, places)
-    for new in [0, 4095, 4096, 4097]:
-        show_block(used(), BOTH, [5] * new, new)
-    for samples in ([lambda x: [x, 1], lambda x: [1, x]]):
-        for sample in [-(2**31), -8388609, -8388608, 8388607, 8388608, 2**31 - 1]:
-            show_block(used(), BOTH, samples(sample), 2)
+        show_block(used(channels), [4096] * gains, pair, len(pair))
+    for gain in [*ENDS, -1, 0, 16384, 16385]:
+        for gains in ([gain, 4096], [4096, gain]):
+            show_block(used(channels), gains, pair, len(pair))
+    for new in range(5):
+        for places in range(5):
+            show_block(used(channels), BOTH, [5] * new, places)
+    for new in range(4096 * channels - 2, 4096 * channels + 3):
+        show_block(used(channels), BOTH, [5] * new, new)
+    for at in range(len(pair)):
+        for sample in [*ENDS, LEAST - 1, LEAST, MOST, MOST + 1]:
+            show_block(used(channels), BOTH, with_sample(channels, at, sample), len(pair))
 
 
-def show_lengths():
-    """Refusals 1, 2 and 3: every length with every band count."""
-    counts = [1, 2, 3, 8, 9, 10, 11]
-    for places in [0, 1, 2, 19, 20, 21, 74, 8066, 41473, 41474, 41475, 92162]:
-        for M in counts:
-            show_prepare(M, places)
-        for count in counts:
-            show_block(([count] + [0] * places)[:places], BOTH, PAIR, 2)
+LENGTHS = {
+    1: [0, 1, 2, 3, 20, 21, 22, 39, 75, 8067, 41474, 41475, 41476, 92163],
+    2: [1, 2, 3, 21, 38, 39, 40, 147, 16131, 82946, 82947, 82948],
+}
+
+
+def show_lengths(channels):
+    """Refusals 1, 2 and 3: lengths with band counts near theirs."""
+    for places in LENGTHS[channels]:
+        bands = [1, 2, 3, 11] if places < 1000 else [8, 9, 10, 11]
+        for M in bands:
+            show_prepare(M, channels, places)
+        for M in bands:
+            show_block(([M, channels] + [0] * places)[:places], BOTH, PAIR[channels], len(PAIR[channels]))
+
+
+def show_other_channels():
+    """Refusal 3: three channels in memory as long as the formula would have them, and none."""
+    show_block([2, 3] + [0] * 55, BOTH, [5] * 6, 6)
+    show_block([2, 0, 0], BOTH, [], 0)
 
 
 def show_faults():
     """Any faults together: the earliest number is given."""
     for faults in range(64):
-        memory = with_place(1, 18) if faults & 1 else used()
+        memory = with_place(1, 2, 18) if faults & 1 else used(1)
         gains, samples = [4096] * (3 if faults & 2 else 2), [5] * (4097 if faults & 16 else 2)
         if faults & 4:
             gains[0] = 16385
         if faults & 32:
             samples[-1] = 8388608
         show_block(memory, gains, samples, len(samples) - (1 if faults & 8 else 0))
+    # of two channels 6 has two faults of its own: another length, and a length that is not whole frames
+    for faults in range(64):
+        memory = with_place(2, 1, 3) if faults & 1 else used(2)
+        gains, samples = [4096] * (3 if faults & 2 else 2), [5] * (3 if faults & 16 else 4)
+        if faults & 4:
+            gains[0] = 16385
+        if faults & 32:
+            samples[1] = 8388608
+        show_block(memory, gains, samples, len(samples) - (2 if faults & 8 else 0))
 
 
 # ---- courses of blocks
 
+# frames
 BLOCKS = [1, 0, 7, 40, 500, 4096, 33, 4096, 4096]
 END_TO_END = {"base": MOST, "step": LEAST - MOST, "span": 2}
 
 
-def impulse(n, new, state):
-    """100,000 at the start, and nothing after it."""
+def impulse(n, new, state, channels):
+    """100,000 at the start, and nothing after it; nothing at all on the right."""
     lend(INPUT, [100000 if i == 0 else 0 for i in range(n, n + new)])
 
 
-def noise(n, new, state):
+def noise(n, new, state, channels):
     """Any sample, drawn."""
     fill(INPUT, 0, new, LEAST, step=1, divisor=128, span=2**24, after=drawn, x=state)
 
 
-def square(n, new, state):
-    """37 samples at one end of the range, 37 at the other."""
-    fill(INPUT, 0, new, **END_TO_END, divisor=37, x=(n - 1) % 2**31)
+def square(n, new, state, channels):
+    """37 frames at one end of the range, 37 at the other: equal sides."""
+    fill(INPUT, 0, new, **END_TO_END, divisor=37 * channels, x=(n - 1) % 2**31)
 
 
-def telegraph(n, new, state):
+def telegraph(n, new, state, channels):
     """One end of the range or the other, drawn."""
     fill(INPUT, 0, new, **END_TO_END, divisor=2**30, after=drawn, x=state)
 
 
-def course(M, signal):
+def course(M, channels, signal):
     """Prepare, and then blocks with gains drawn for each. The lengths go round the longest line twice."""
-    n, state = 0, M
-    show_prepare(M, memory_length(M)[1])
-    for new in BLOCKS:
+    n, state, places = 0, M, memory_length(M, channels)[1]
+    show_prepare(M, channels, places)
+    for frames in BLOCKS:
+        new = channels * frames
         state = fill(GAINS, 0, M, 0, step=1, divisor=8, span=16385, after=drawn, x=state)
-        signal(n, new, state)
-        show_lent(memory_length(M)[1], M, new, new)
+        signal(n, new, state, channels)
+        show_lent(places, M, new, new)
         n += new
         for _ in range(new):
             state = drawn(state)
 
 
-def any_places(M, position):
+def any_places(M, channels, position):
     """Signal places at the ends of 32 bits, and a gain for line 1 alone that the sample range holds."""
-    fill(MEMORY, 0, memory_length(M)[1], 2**31 - 1, step=1, divisor=2**30, span=2, after=drawn, x=M)
-    lend(MEMORY, [M, position])
+    places = memory_length(M, channels)[1]
+    fill(MEMORY, 0, places, 2**31 - 1, step=1, divisor=2**30, span=2, after=drawn, x=M)
+    lend(MEMORY, [M, channels, position])
     lend(GAINS, [8] + [0] * (M - 1))
     lend(INPUT, [MOST] * 40)
-    show_lent(memory_length(M)[1], M, 40, 40)
+    show_lent(places, M, 40, 40)
 
 
-def show_courses():
+def show_courses(channels):
     """Every signal and any places, at 2, 3, 8 and 10 bands."""
     for signal in [impulse, noise, square, telegraph]:
         for M in [2, 3, 8, 10]:
-            course(M, signal)
+            course(M, channels, signal)
     for M in [2, 3, 8, 10]:
         for position in [0, ring_length(M) - 1, ring_length(M)]:
-            any_places(M, position)
+            any_places(M, channels, position)
 
 
 if __name__ == "__main__":
     check_bench()
-    show_numbers()
-    show_lengths()
+    check_sides()
+    show_counts()
+    for side in SIDES:
+        show_numbers(side)
+        show_lengths(side)
+    show_other_channels()
     show_faults()
-    show_courses()
+    for side in SIDES:
+        show_courses(side)
     if "--cases" in sys.argv:
         numbers = [len(cases), *(number for numbers in cases for number in numbers)]
         sys.stdout.buffer.write(struct.pack(f"<{len(numbers)}I", *numbers))

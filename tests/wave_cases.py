@@ -9,7 +9,8 @@ import sys
 from model.wave import WHOLE, chunk, fmt, riff
 
 FMT = fmt()
-TWO = WHOLE[44:]  # the samples 1 and -1
+SIDES = fmt(channels=2)
+TWO = WHOLE[44:]  # the samples 1 and -1, or a frame of both
 
 
 def filler(length):
@@ -23,6 +24,13 @@ CASES = {
     "data-size-past-the-end.wav": riff(FMT, chunk(b"data", TWO, size=4294967295)),
     "data-size-0.wav": riff(FMT, chunk(b"data", b"")),
     "bits-16.wav": riff(fmt(rate=44100, bits=16), chunk(b"data", b"\x00\x80\xff\x7f\xff\xff")),
+    "two-channels.wav": riff(SIDES, chunk(b"data", TWO)),
+    "two-channels-bits-16.wav": riff(fmt(rate=44100, bits=16, channels=2), chunk(b"data", b"\x00\x80\xff\x7f\xff\xff\x01\x00")),
+    "two-channels-data-size-0.wav": riff(SIDES, chunk(b"data", b"")),
+    "two-channels-largest-written.wav": riff(SIDES, chunk(b"data", TWO, size=4294967256)),
+    "two-channels-too-large-to-write.wav": riff(SIDES, chunk(b"data", TWO, size=4294967262)),
+    "one-channel-largest-written.wav": riff(FMT, chunk(b"data", TWO, size=4294967259)),
+    "one-channel-too-large-to-write.wav": riff(FMT, chunk(b"data", TWO, size=4294967262)),
     "note-before.wav": riff(chunk(b"note", b"abc"), FMT, chunk(b"note", b""), chunk(b"data", TWO)),
     "header-ends-at-4096.wav": filler(4096),
     # 21
@@ -38,11 +46,16 @@ CASES = {
     "23-before-24.wav": riff(chunk(b"fmt ", b"", size=17)),
     "23-second-fmt.wav": riff(FMT, FMT, chunk(b"data", TWO)),
     "23-tag.wav": riff(fmt(tag=3), chunk(b"data", TWO)),
-    "23-channels.wav": riff(fmt(channels=2), chunk(b"data", TWO)),
+    "23-channels.wav": riff(fmt(channels=3), chunk(b"data", TWO + TWO[:3])),
+    "23-channels-0.wav": riff(fmt(channels=0), chunk(b"data", b"")),
+    "23-channels-high-byte.wav": riff(fmt(channels=2 + 256, block=6, byte_rate=288000), chunk(b"data", TWO)),
     "23-rate.wav": riff(fmt(rate=44101), chunk(b"data", TWO)),
     "23-rate-high-byte.wav": riff(fmt(rate=48000 + 2**24, byte_rate=144000), chunk(b"data", TWO)),
     "23-byte-rate.wav": riff(fmt(byte_rate=144001), chunk(b"data", TWO)),
+    "23-byte-rate-of-one-side.wav": riff(fmt(channels=2, byte_rate=144000), chunk(b"data", TWO)),
     "23-block.wav": riff(fmt(block=4, byte_rate=192000), chunk(b"data", TWO)),
+    "23-block-of-one-side.wav": riff(fmt(channels=2, block=3), chunk(b"data", TWO)),
+    "23-block-of-two-sides.wav": riff(fmt(block=6), chunk(b"data", TWO)),
     "23-bits.wav": riff(fmt(bits=32), chunk(b"data", TWO)),
     # 24
     "24-twelve-bytes.wav": WHOLE[:12],
@@ -58,6 +71,9 @@ CASES = {
     "25-part-of-24.wav": riff(FMT, chunk(b"data", TWO, size=5)),
     "25-part-of-16.wav": riff(fmt(bits=16), chunk(b"data", TWO, size=5)),
     "25-largest.wav": riff(FMT, chunk(b"data", TWO, size=4294967294)),
+    "25-one-side-of-24.wav": riff(SIDES, chunk(b"data", TWO + TWO[:3])),
+    "25-one-side-of-16.wav": riff(fmt(bits=16, channels=2), chunk(b"data", TWO)),
+    "25-two-channels-largest.wav": riff(SIDES, chunk(b"data", TWO, size=4294967295)),
 }
 
 

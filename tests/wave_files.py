@@ -19,11 +19,11 @@ def show(name, data):
     if isinstance(answer, int):
         print(f"{name} refused {answer}")
         return
-    rate, bits, length, start = answer
-    print(name, rate, bits, length, start)
+    rate, bits, length, start, channels = answer
+    print(name, rate, bits, length, start, channels)
     there = data[:ROOM][start : start + length]
     print(*["samples", *samples(there, bits)[:MOST]])
-    header = write(44, rate, length)
+    header = write(44, rate, length, channels)
     print("header", f"refused {header}" if isinstance(header, int) else header.hex())
 
 

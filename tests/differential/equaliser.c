@@ -1,123 +1,58 @@
-/* prepare and block against the tree in plain C. */
+/* block against the tree in plain C, of one channel and of two. */
 #include "check.h"
 #include "lent.h"
 #include "octave_eq.h"
 #include "parts.h"
+#include "signals.h"
 #include "tree.h"
 
-enum { MOST_BLOCK = OEQ_BLOCK_MOST };
+enum { MOST_SAMPLES = OEQ_BLOCK_MOST * OEQ_CHANNELS_MOST };
 
-static long line_length(int bands)
-{
-    return 9L << (bands - 1);
-}
-
-static long length_of(int bands)
-{
-    return 2 + (bands - 1) * line_length(bands);
-}
-
-static const int32_t outside_counts[] = {INT32_MIN, -10, -2, -1, 0, 1, 11, 12, 66, 258, INT32_MAX};
-
-void lengths(void)
-{
-    for (size_t i = 0; i < sizeof outside_counts / sizeof *outside_counts; i++) {
-        struct places memory = places_new(random_below(100));
-        places_mark(memory);
-        IS_REFUSAL(oeq_memory_length(outside_counts[i]), 1);
-        /* the length is wrong too */
-        IS_REFUSAL(oeq_prepare(outside_counts[i], memory.lent, memory.length), 1);
-        CHECK(places_same(memory), "count %d", (int)outside_counts[i]);
-        IS_REFUSAL(oeq_prepare(outside_counts[i], NULL, 0), 1);
-        places_free(memory);
-    }
-    for (int bands = 2; bands <= 10; bands++) {
-        long length = length_of(bands);
-        CHECK(oeq_memory_length(bands) == length, "%d bands", bands);
-        CHECK(OEQ_MEMORY_LENGTH(bands) == length, "%d bands", bands);
-        for (long wrong = length - 1; wrong <= length + 1; wrong += 2) {
-            struct places memory = places_new((size_t)wrong);
-            places_mark(memory);
-            IS_REFUSAL(oeq_prepare(bands, memory.lent, memory.length), 2);
-            CHECK(places_same(memory), "%d bands, %ld places", bands, wrong);
-            places_free(memory);
-        }
-        IS_REFUSAL(oeq_prepare(bands, NULL, 0), 2);
-        struct places memory = places_new((size_t)length);
-        places_mark(memory);
-        CHECK(oeq_prepare(bands, memory.lent, memory.length) == 9 * ((1 << (bands - 1)) - 1), "%d bands", bands);
-        CHECK(memory.lent[0] == bands, "%d bands", bands);
-        for (long i = 1; i < length; i++)
-            CHECK(memory.lent[i] == 0, "%d bands, place %ld", bands, i);
-        CHECK(places_around_same(memory), "%d bands", bands);
-        places_free(memory);
-    }
-    CHECK(oeq_memory_length(10) <= 46000 && oeq_memory_length(8) <= 8100, "rule 5.3's bounds");
-}
-
-/* One of several kinds of signal. */
-static int32_t signal_at(int kind, long n)
-{
-    switch (kind) {
-    case 0: return (int32_t)random_below(1u << 24) - (1 << 23);                  /* noise */
-    case 1: return random_bits() & 1 ? OEQ_SAMPLE_MOST : OEQ_SAMPLE_LEAST;        /* full scale */
-    case 2: return n % 977 == 3 ? OEQ_SAMPLE_LEAST : 0;                          /* impulses */
-    case 3: return 0;                                                             /* silence */
-    case 4: return n / 700 % 2 ? OEQ_SAMPLE_LEAST : OEQ_SAMPLE_MOST;              /* steps */
-    case 5: return (int32_t)random_below(5) - 2;                                  /* ties */
-    default: return n % 2 ? OEQ_SAMPLE_MOST : OEQ_SAMPLE_LEAST;                   /* the highest tone */
-    }
-}
-
-static int32_t random_gain(void)
-{
-    switch (random_below(5)) {
-    case 0: return 0;
-    case 1: return OEQ_GAIN_MOST;
-    case 2: return OEQ_GAIN_UNITY;
-    default: return (int32_t)random_below(OEQ_GAIN_MOST + 1);
-    }
-}
-
-static size_t random_cut(void)
-{
-    switch (random_below(8)) {
-    case 0: return 0;
-    case 1: return 1;
-    case 2: return MOST_BLOCK;
-    case 3: return 1 + random_below(MOST_BLOCK);
-    default: return 1 + random_below(300);
-    }
-}
-
-/* Every place of the memory: the count, the place of the next sample, and the lines from line M down to line 2, each a ring. */
+/* Every place of the memory: the counts, the place of the next frame, and of each side the lines from line M down to line 2, each a ring. */
 static void check_memory(const struct tree *tree, const int32_t *memory)
 {
-    CHECK(memory[0] == tree->bands && memory[1] == tree->position, "position %d, not %d", (int)memory[1], tree->position);
-    for (int line = 0; line < tree->bands - 1; line++)
-        CHECK(memcmp(memory + 2 + line * tree->size, tree->line[line], (size_t)tree->size * sizeof *memory) == 0,
-              "%d bands, line %d", tree->bands, tree->bands - line);
+    CHECK(memory[0] == tree->bands && memory[1] == tree->channels, "%d bands, %d channels", (int)memory[0], (int)memory[1]);
+    CHECK(memory[2] == tree->position, "position %d, not %d", (int)memory[2], tree->position);
+    for (int side = 0; side < tree->channels; side++)
+        for (int line = 0; line < tree->bands - 1; line++)
+            CHECK(memcmp(memory + 3 + side * side_length(tree->bands) + line * tree->size, tree->line[side][line],
+                         (size_t)tree->size * sizeof *memory) == 0,
+                  "%d bands, side %d of %d, line %d", tree->bands, side, tree->channels, tree->bands - line);
 }
 
-/* Runs a block of the tree and of the library side by side; n samples came before. */
-static void both(struct tree *tree, struct places memory, long n, size_t cut, int kind)
+/* The block with one sample out of range, on either side: refused for both, and nothing has changed since the mark. */
+static void refused_between(struct places memory, const int32_t *gains, size_t bands, int32_t *input, struct places output)
 {
-    struct places output = places_new(cut);
-    static int32_t input[MOST_BLOCK], expected[MOST_BLOCK];
+    size_t at = random_below((uint32_t)output.length);
+    int32_t sample = input[at];
+    input[at] = random_bits() & 1 ? OEQ_SAMPLE_MOST + 1 : OEQ_SAMPLE_LEAST - 1;
+    IS_REFUSAL(oeq_block(memory.lent, memory.length, gains, bands, input, output.length, output.lent, output.length), 8);
+    CHECK(places_same(memory) && places_same(output), "%zu bands, sample %zu", bands, at);
+    input[at] = sample;
+}
+
+/* Runs a block of the tree and of the library side by side; n frames came before, and each side has a kind of signal. */
+static void both(struct tree *tree, struct places memory, long n, size_t cut, const int *kinds)
+{
+    static int32_t input[MOST_SAMPLES], expected[MOST_SAMPLES];
+    size_t channels = (size_t)tree->channels, length = cut * channels;
+    struct places output = places_new(length);
     int32_t gains[TREE_MOST_BANDS];
     for (int m = 0; m < tree->bands; m++)
         gains[m] = random_gain();
-    for (size_t i = 0; i < cut; i++)
-        input[i] = signal_at(kind, n + (long)i);
+    for (size_t i = 0; i < length; i++)
+        input[i] = signal_at(kinds[i % channels], n + (long)(i / channels));
     places_mark(memory);
     places_mark(output);
-    int64_t answer = oeq_block(memory.lent, memory.length, gains, (size_t)tree->bands, cut ? input : NULL, cut,
-                               cut ? output.lent : NULL, cut);
+    if (cut && random_below(8) == 0)
+        refused_between(memory, gains, (size_t)tree->bands, input, output);
+    int64_t answer = oeq_block(memory.lent, memory.length, gains, (size_t)tree->bands, cut ? input : NULL, length,
+                               cut ? output.lent : NULL, length);
     CHECK(answer == (int64_t)cut, "answered %lld for a block of %zu", (long long)answer, cut);
     tree_block(tree, gains, input, expected, cut);
-    for (size_t i = 0; i < cut; i++)
-        CHECK(output.lent[i] == expected[i], "%d bands, sample %ld: %d, not %d", tree->bands, n + (long)i,
-              (int)output.lent[i], (int)expected[i]);
+    for (size_t i = 0; i < length; i++)
+        CHECK(output.lent[i] == expected[i], "%d bands, frame %ld, side %zu of %zu: %d, not %d", tree->bands,
+              n + (long)(i / channels), i % channels, channels, (int)output.lent[i], (int)expected[i]);
     CHECK(places_around_same(memory) && places_around_same(output), "%d bands", tree->bands);
     if (cut == 0)
         CHECK(places_same(memory), "an empty block");
@@ -126,18 +61,25 @@ static void both(struct tree *tree, struct places memory, long n, size_t cut, in
 
 static struct tree tree;
 
+/* Rounds in turn of one channel and of two. */
+static int channels_of(int round)
+{
+    return 1 + round % 2;
+}
+
 void histories(int rounds)
 {
     for (int round = 0; round < rounds; round++)
         for (int bands = 2; bands <= 10; bands++) {
-            int kind = (round + bands) % 7;
-            long length = 2 * line_length(bands) + 600 + (long)random_below(1000), n = 0;
-            struct places memory = places_new((size_t)length_of(bands));
-            oeq_prepare(bands, memory.lent, memory.length);
-            tree_prepare(&tree, bands);
-            while (n < length) {
+            int channels = channels_of(round), kind = (round + bands) % SIGNALS;
+            long frames = 2 * line_length(bands) + 600 + (long)random_below(1000), n = 0;
+            struct places memory = places_new((size_t)length_of(bands, channels));
+            oeq_prepare(bands, channels, memory.lent, memory.length);
+            tree_prepare(&tree, bands, channels);
+            while (n < frames) {
                 size_t cut = random_cut();
-                both(&tree, memory, n, cut, random_below(4) ? kind : (int)random_below(7));
+                int kinds[2] = {random_below(4) ? kind : (int)random_below(SIGNALS), (int)random_below(SIGNALS)};
+                both(&tree, memory, n, cut, kinds);
                 n += (long)cut;
             }
             check_memory(&tree, memory.lent);
@@ -159,19 +101,25 @@ void wild_memories(int rounds)
 {
     for (int round = 0; round < rounds; round++)
         for (int bands = 2; bands <= 10; bands++) {
-            int kind = (int)random_below(4);
-            long size = line_length(bands), length = bands < 7 ? 3 * size : 200 + (long)random_below(400), n = 0;
-            struct places memory = places_new((size_t)length_of(bands));
-            tree_prepare(&tree, bands);
-            tree.position = round == 0 ? (int)size - 1 : (int)random_below((uint32_t)size);
+            int channels = channels_of(round);
+            long size = line_length(bands), frames = bands < 7 ? 3 * size : 200 + (long)random_below(400), n = 0;
+            struct places memory = places_new((size_t)length_of(bands, channels));
+            tree_prepare(&tree, bands, channels);
+            tree.position = round < 2 ? (int)size - 1 : (int)random_below((uint32_t)size);
             memory.lent[0] = bands;
-            memory.lent[1] = tree.position;
-            for (int line = 0; line < bands - 1; line++)
-                for (long i = 0; i < size; i++)
-                    memory.lent[2 + line * size + i] = tree.line[line][i] = wild(kind);
-            while (n < length) {
+            memory.lent[1] = channels;
+            memory.lent[2] = tree.position;
+            int32_t *place = memory.lent + 3;
+            for (int side = 0; side < channels; side++) {
+                int kind = (int)random_below(4);
+                for (int line = 0; line < bands - 1; line++)
+                    for (long i = 0; i < size; i++)
+                        *place++ = tree.line[side][line][i] = wild(kind);
+            }
+            while (n < frames) {
                 size_t cut = 1 + random_below(200);
-                both(&tree, memory, n, cut, (int)random_below(7));
+                int kinds[2] = {(int)random_below(SIGNALS), (int)random_below(SIGNALS)};
+                both(&tree, memory, n, cut, kinds);
                 n += (long)cut;
             }
             check_memory(&tree, memory.lent);

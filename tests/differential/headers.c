@@ -4,7 +4,7 @@
 #include "octave_eq.h"
 #include "parts.h"
 
-enum { ROOM = 6000 };
+enum { ROOM = 6000, FOUND = 5 };
 
 /* The RIFF size counts 36 bytes more, in 32 bits. */
 static const uint32_t largest = UINT32_MAX - 36;
@@ -19,13 +19,13 @@ static uint32_t number_at(const uint8_t *s, size_t bytes)
 
 static int right_values(const uint8_t *fmt)
 {
-    uint32_t rate = number_at(fmt + 4, 4), block = number_at(fmt + 12, 2), bits = number_at(fmt + 14, 2);
-    return number_at(fmt, 2) == 1 && number_at(fmt + 2, 2) == 1 && (rate == 44100 || rate == 48000)
-        && (bits == 16 || bits == 24) && block == bits / 8 && number_at(fmt + 8, 4) == rate * block;
+    uint32_t channels = number_at(fmt + 2, 2), rate = number_at(fmt + 4, 4), block = number_at(fmt + 12, 2), bits = number_at(fmt + 14, 2);
+    return number_at(fmt, 2) == 1 && (channels == 1 || channels == 2) && (rate == 44100 || rate == 48000)
+        && (bits == 16 || bits == 24) && block == channels * bits / 8 && number_at(fmt + 8, 4) == rate * block;
 }
 
 /* The refusal number, or 0 and what was found. */
-static int model_read(const uint8_t *front, size_t length, uint32_t found[4])
+static int model_read(const uint8_t *front, size_t length, uint32_t found[FOUND])
 {
     uint64_t at = 12;
     int have_format = 0;
@@ -48,10 +48,11 @@ static int model_read(const uint8_t *front, size_t length, uint32_t found[4])
             have_format = 1;
             found[0] = number_at(chunk + 12, 4);
             found[1] = number_at(chunk + 22, 2);
+            found[4] = number_at(chunk + 10, 2);
         } else if (memcmp(chunk, "data", 4) == 0) {
             if (!have_format)
                 return 22;
-            if (size % (found[1] / 8) != 0)
+            if (size % (found[4] * found[1] / 8) != 0)
                 return 25;
             found[2] = size;
             found[3] = (uint32_t)at + 8;
@@ -61,21 +62,23 @@ static int model_read(const uint8_t *front, size_t length, uint32_t found[4])
     }
 }
 
-static long tally[32];
+/* Fronts refused with a number; fronts accepted, by channels and bytes of a sample. */
+static long refused[32], accepted[3][4];
 
 static void compare(const uint8_t *front, size_t length)
 {
-    uint32_t expected[4], found[6], before[6];
-    for (int i = 0; i < 6; i++)
+    uint32_t expected[FOUND], found[FOUND + 2], before[FOUND + 2];
+    for (int i = 0; i < FOUND + 2; i++)
         before[i] = found[i] = (uint32_t)random_bits();
     int number = model_read(front, length, expected);
     int64_t answer = oeq_wave_read(length ? front : NULL, length, found + 1);
-    tally[number]++;
     if (number == 0) {
-        CHECK(answer == 4, "answered %lld", (long long)answer);
-        CHECK(memcmp(found + 1, expected, sizeof expected) == 0, "found %u %u %u %u", found[1], found[2], found[3], found[4]);
-        CHECK(found[0] == before[0] && found[5] == before[5], "around the four places");
+        accepted[expected[4]][expected[1] / 8]++;
+        CHECK(answer == FOUND, "answered %lld", (long long)answer);
+        CHECK(memcmp(found + 1, expected, sizeof expected) == 0, "found %u %u %u %u %u", found[1], found[2], found[3], found[4], found[5]);
+        CHECK(found[0] == before[0] && found[FOUND + 1] == before[FOUND + 1], "around the five places");
     } else {
+        refused[number]++;
         IS_REFUSAL(answer, number);
         CHECK(memcmp(found, before, sizeof found) == 0, "refused %d, found changed", number);
     }
@@ -91,13 +94,14 @@ static size_t put_number(uint8_t *s, uint32_t n, size_t bytes)
 static size_t put_format(uint8_t *s)
 {
     uint32_t rate = random_bits() & 1 ? 44100 : 48000, bits = random_bits() & 1 ? 16 : 24;
+    uint32_t channels = random_below(32) ? 1 + random_below(2) : random_below(300), counted = random_below(32) ? channels : 3 - channels;
     memcpy(s, "fmt ", 4);
     put_number(s + 4, 16, 4);
     put_number(s + 8, 1, 2);
-    put_number(s + 10, 1, 2);
+    put_number(s + 10, channels, 2);
     put_number(s + 12, rate, 4);
-    put_number(s + 16, rate * (bits / 8), 4);
-    put_number(s + 20, bits / 8, 2);
+    put_number(s + 16, rate * (random_below(32) ? counted : 3 - counted) * (bits / 8), 4);
+    put_number(s + 20, counted * (bits / 8), 2);
     put_number(s + 22, bits, 2);
     return 24;
 }
@@ -106,9 +110,9 @@ static size_t put_data(uint8_t *s)
 {
     uint32_t size = (uint32_t)random_bits();
     if (random_below(4))
-        size -= size % 6;
+        size -= size % 12;
     if (random_below(4) == 0)
-        size = random_below(7);
+        size = random_below(13);
     memcpy(s, "data", 4);
     return 4 + put_number(s + 4, size, 4);
 }
@@ -154,35 +158,83 @@ static void damage(uint8_t *front, size_t length)
         front[random_below((uint32_t)length)] ^= (uint8_t)(1u << random_below(8));
 }
 
-static void writer(int rounds)
+/* The refusal number of the writer, or 0. */
+static int model_write(size_t length, uint32_t rate, uint32_t size, int32_t channels)
+{
+    if (length != 44)
+        return 27;
+    if (rate != 44100 && rate != 48000)
+        return 28;
+    if (channels != 1 && channels != 2)
+        return 9;
+    return size % (3 * (uint32_t)channels) != 0 || size > largest ? 26 : 0;
+}
+
+/* The writer with a buffer of so many bytes, against the model; an accepted header is read back. */
+static void write_one(size_t length, uint32_t rate, uint32_t size, int32_t channels)
 {
     uint8_t buffer[48], expected[48];
+    uint32_t found[FOUND];
+    memset(buffer, 0xaa, sizeof buffer);
+    memset(expected, 0xaa, sizeof expected);
+    int number = model_write(length, rate, size, channels);
+    int64_t answer = oeq_wave_write(length ? buffer : NULL, length, rate, size, channels);
+    if (number != 0) {
+        IS_REFUSAL(answer, number);
+    } else {
+        uint32_t frame = 3 * (uint32_t)channels;
+        CHECK(answer == 44, "answered %lld", (long long)answer);
+        memcpy(expected, "RIFF\0\0\0\0WAVEfmt \20\0\0\0\1\0", 22);
+        put_number(expected + 4, size + 36, 4);
+        put_number(expected + 22, (uint32_t)channels, 2);
+        put_number(expected + 24, rate, 4);
+        put_number(expected + 28, rate * frame, 4);
+        put_number(expected + 32, frame, 2);
+        memcpy(expected + 34, "\30\0data", 6);
+        put_number(expected + 40, size, 4);
+        CHECK(oeq_wave_read(buffer, 44, found) == FOUND && found[0] == rate && found[1] == 24 && found[2] == size
+                  && found[3] == 44 && found[4] == (uint32_t)channels, "the header read back");
+    }
+    CHECK(memcmp(buffer, expected, sizeof buffer) == 0, "rate %u, length %u, %d channels", rate, size, (int)channels);
+}
+
+static const int32_t outside_channels[] = {INT32_MIN, -2, -1, 0, 3, 4, 257, 258, INT32_MAX};
+
+/* Any faults at once, each in several ways, and the exact limits of the length. */
+static void writer_faults(void)
+{
+    static const size_t buffers[] = {44, 0, 43, 45};
+    static const uint32_t rates[] = {48000, 44100, 0, 44101, 96000}, sizes[] = {6, 3, 0, 1, 5, 7, 9, UINT32_MAX, UINT32_MAX - 3};
+    for (size_t a = 0; a < 4; a++)
+        for (size_t b = 0; b < 5; b++)
+            for (size_t c = 0; c < 9; c++) {
+                write_one(buffers[a], rates[b], sizes[c], 1);
+                write_one(buffers[a], rates[b], sizes[c], 2);
+                for (size_t d = 0; d < 9; d++)
+                    write_one(buffers[a], rates[b], sizes[c], outside_channels[d]);
+            }
+    for (uint32_t size = UINT32_MAX; size > UINT32_MAX - 100; size--)
+        for (int32_t channels = 1; channels <= 2; channels++)
+            write_one(44, 48000, size, channels);
+    uint8_t buffer[44];
+    CHECK(oeq_wave_write(buffer, 44, 48000, 4294967259u, 1) == 44 && oeq_wave_write(buffer, 44, 48000, 4294967256u, 2) == 44, "the largest");
+    IS_REFUSAL(oeq_wave_write(buffer, 44, 48000, 4294967262u, 1), 26);
+    IS_REFUSAL(oeq_wave_write(buffer, 44, 48000, 4294967262u, 2), 26);
+    IS_REFUSAL(oeq_wave_write(buffer, 44, 48000, 4294967259u, 2), 26);
+}
+
+static void writer(int rounds)
+{
+    static const uint32_t rates[6] = {44100, 48000, 0, 44101, 96000, 0xffffffffu};
+    writer_faults();
     for (int round = 0; round < rounds; round++) {
-        static const uint32_t rates[6] = {44100, 48000, 0, 44101, 96000, 0xffffffffu};
-        uint32_t rate = rates[random_below(random_bits() & 1 ? 2 : 6)], size = (uint32_t)random_bits(), found[4];
-        size_t length = random_below(4) ? 44 : random_below(49);
+        uint32_t rate = rates[random_below(random_bits() & 1 ? 2 : 6)], size = (uint32_t)random_bits();
         if (random_bits() & 1)
-            size -= size % 3;
+            size -= size % 6;
         if (random_below(8) == 0)
             size = largest - 4 + random_below(41);
-        memset(buffer, 0xaa, sizeof buffer);
-        memset(expected, 0xaa, sizeof expected);
-        int number = length != 44 ? 27 : rate != 44100 && rate != 48000 ? 28 : size % 3 != 0 || size > largest ? 26 : 0;
-        int64_t answer = oeq_wave_write(length ? buffer : NULL, length, rate, size);
-        if (number != 0) {
-            IS_REFUSAL(answer, number);
-        } else {
-            CHECK(answer == 44, "answered %lld", (long long)answer);
-            memcpy(expected, "RIFF\0\0\0\0WAVEfmt \20\0\0\0\1\0\1\0", 24);
-            put_number(expected + 4, size + 36, 4);
-            put_number(expected + 24, rate, 4);
-            put_number(expected + 28, rate * 3, 4);
-            memcpy(expected + 32, "\3\0\30\0data", 8);
-            put_number(expected + 40, size, 4);
-            CHECK(oeq_wave_read(buffer, 44, found) == 4 && found[0] == rate && found[1] == 24 && found[2] == size
-                      && found[3] == 44, "the header read back");
-        }
-        CHECK(memcmp(buffer, expected, sizeof buffer) == 0, "rate %u, length %u", rate, size);
+        write_one(random_below(4) ? 44 : random_below(49), rate, size,
+                  random_below(4) ? 1 + (int32_t)random_below(2) : outside_channels[random_below(9)]);
     }
 }
 
@@ -199,7 +251,9 @@ void headers(int rounds)
         compare(front, random_below(64));
     }
     for (int number = 21; number <= 25; number++)
-        CHECK(tally[number] > 0, "no front was refused %d", number);
-    CHECK(tally[0] > 0, "no front was accepted");
+        CHECK(refused[number] > 0, "no front was refused %d", number);
+    for (int channels = 1; channels <= 2; channels++)
+        for (int bytes = 2; bytes <= 3; bytes++)
+            CHECK(accepted[channels][bytes] > 0, "no front of %d channels, %d bytes a sample was accepted", channels, bytes);
     writer(rounds);
 }

@@ -26,6 +26,7 @@ int main(int argc, char **argv)
     lengths();
     histories(35 * more);
     wild_memories(60 * more);
+    sides(10 * more);
     block_refusals(20 * more);
     gain_commands(8000000L * more);
     samples();

@@ -2,9 +2,10 @@
 #ifndef PARTS_H
 #define PARTS_H
 
-void lengths(void);             /* band counts, memory lengths, prepare */
+void lengths(void);             /* band and channel counts, memory lengths, prepare */
 void histories(int rounds);     /* long signals in random cuts, from prepared memory */
 void wild_memories(int rounds); /* any numbers in accepted memory */
+void sides(int rounds);         /* two channels beside one, and exchanged */
 void block_refusals(int rounds);
 void gain_commands(long patterns);
 void samples(void);

@@ -3,57 +3,85 @@
 #include "lent.h"
 #include "octave_eq.h"
 #include "parts.h"
+#include "signals.h"
 
 enum { FAULTS = 6, FIRST = 3 };
 
-/* Makes what prepare made wrong: the count, the length or the position. */
-static void spoil_memory(struct places *memory, int bands)
+static int32_t one_of(const int32_t *list, uint32_t count)
 {
-    long size = 9L * (1L << (bands - 1));
-    static const int32_t counts[] = {INT32_MIN, -1, 0, 1, 11, INT32_MAX};
-    switch (random_below(7)) {
-    case 0: memory->lent[0] = counts[random_below(6)]; break;
+    return list[random_below(count)];
+}
+
+/* Makes what prepare made wrong: a count, the length or the position. */
+static void spoil_memory(struct places *memory, int bands, int channels)
+{
+    long size = line_length(bands);
+    static const int32_t band_counts[] = {INT32_MIN, -1, 0, 1, 11, INT32_MAX};
+    static const int32_t channel_counts[] = {INT32_MIN, -1, 0, 3, 257, INT32_MAX};
+    switch (random_below(11)) {
+    case 0: memory->lent[0] = one_of(band_counts, 6); break;
     case 1: memory->lent[0] = bands == 10 ? 9 : bands + 1; break;
-    case 2: memory->lent[1] = (int32_t)size; break;
-    case 3: memory->lent[1] = -1; break;
-    case 4: memory->lent[1] = (int32_t)size + (int32_t)random_below(1000); break;
-    case 5: memory->length -= 1; break;
-    default: memory->length = random_below(3); break;
+    case 2: memory->lent[1] = one_of(channel_counts, 6); break;
+    case 3: memory->lent[1] = 3 - channels; break;
+    case 4: memory->lent[2] = (int32_t)size; break;
+    case 5: memory->lent[2] = random_bits() & 1 ? -1 : INT32_MIN; break;
+    case 6: memory->lent[2] = (int32_t)size + (int32_t)random_below((uint32_t)size); break; /* a place of the lines, but of the next one */
+    case 7: memory->length -= 1; break;
+    case 8: memory->length += 1; break;
+    case 9: memory->length = random_below(4); break; /* no room for the counts, or no more than that */
+    default: memory->length = (size_t)(channels == 2 ? length_of(bands, 1) : length_of(bands, 1) - size); break;
     }
 }
 
 static void spoil_gain(int32_t *gains, size_t length)
 {
     static const int32_t wrong[] = {-1, 16385, INT32_MIN, INT32_MAX};
-    gains[random_below((uint32_t)length)] = wrong[random_below(4)];
+    gains[random_below((uint32_t)length)] = one_of(wrong, 4);
 }
+
+static const int32_t wrong_samples[] = {-8388609, 8388608, INT32_MIN, INT32_MAX};
 
 static void spoil_sample(int32_t *input, size_t length)
 {
-    static const int32_t wrong[] = {-8388609, 8388608, INT32_MIN, INT32_MAX};
     size_t place = random_bits() & 1 ? length - 1 : random_below((uint32_t)length);
-    input[place] = wrong[random_below(4)];
+    input[place] = one_of(wrong_samples, 4);
+}
+
+/* Makes the lengths of input and output wrong: they differ, or they are not whole frames, or both. */
+static void spoil_lengths(int channels, size_t *input, size_t *output)
+{
+    uint32_t way = random_below(channels == 2 ? 4 : 2);
+    if (way >= 2)
+        *output = *input += random_bits() & 1 ? 1 : -1;
+    if (way != 2)
+        *output += random_bits() & 1 ? (size_t)(1 + random_below(2)) : (size_t)-1;
 }
 
 /* A call with the faults of a set, bit 0 for refusal 3 up to bit 5 for refusal 8. */
-static void call_with(int bands, int set)
+static void call_with(int bands, int channels, int set)
 {
-    size_t length = set & 16 ? 4097 + random_below(3000) : 1 + random_below(100);
-    size_t gain_count = (size_t)bands;
+    size_t frames = 1 + random_below(100), gain_count = (size_t)bands, length, output_length;
+    if (set & 16)
+        frames = 4097 + (random_below(4) ? random_below(3000) : 0);
+    else if (random_below(32) == 0)
+        frames = 4096;
     if (set & 2)
         gain_count = random_bits() & 1 ? (size_t)bands + 1 : (size_t)bands - 1;
-    struct places memory = places_new((size_t)oeq_memory_length(bands));
+    output_length = length = frames * (size_t)channels;
+    if (set & 8)
+        spoil_lengths(channels, &length, &output_length);
+    struct places memory = places_new((size_t)oeq_memory_length(bands, channels));
     struct places gains = places_new(gain_count);
     struct places input = places_new(length);
-    struct places output = places_new(set & 8 ? length + (random_bits() & 1 ? 1 : -1) : length);
-    oeq_prepare(bands, memory.lent, memory.length);
+    struct places output = places_new(output_length);
+    oeq_prepare(bands, channels, memory.lent, memory.length);
     for (size_t i = 0; i < gain_count; i++)
         gains.lent[i] = (int32_t)random_below(16385);
     for (size_t i = 0; i < length; i++)
         input.lent[i] = (int32_t)random_below(1u << 24) - (1 << 23);
     size_t whole = memory.length;
     if (set & 1)
-        spoil_memory(&memory, bands);
+        spoil_memory(&memory, bands, channels);
     if (set & 4)
         spoil_gain(gains.lent, gain_count);
     if (set & 32)
@@ -67,8 +95,8 @@ static void call_with(int bands, int set)
     int64_t answer = oeq_block(memory.lent, lent, gains.lent, gains.length, input.lent, input.length, output.lent,
                                output.length);
     if (set == 0) {
-        CHECK(answer == (int64_t)length, "answered %lld", (long long)answer);
-        CHECK(places_around_same(memory) && places_around_same(output), "%d bands", bands);
+        CHECK(answer == (int64_t)frames, "answered %lld", (long long)answer);
+        CHECK(places_around_same(memory) && places_around_same(output), "%d bands, %d channels", bands, channels);
     } else {
         int first = FIRST;
         while (!(set >> (first - FIRST) & 1))
@@ -76,13 +104,80 @@ static void call_with(int bands, int set)
         IS_REFUSAL(answer, first);
         CHECK(oeq_is_refusal(answer) && oeq_refusal_number(answer) == first && oeq_refusal_place(answer) == 0,
               "the header's helpers");
-        CHECK(places_same(memory) && places_same(output), "%d bands, refused %d", bands, first);
+        CHECK(places_same(memory) && places_same(output), "%d bands, %d channels, refused %d", bands, channels, first);
     }
-    CHECK(places_same(gains) && places_same(input), "%d bands", bands);
+    CHECK(places_same(gains) && places_same(input), "%d bands, %d channels", bands, channels);
     places_free(memory);
     places_free(gains);
     places_free(input);
     places_free(output);
+}
+
+static const int32_t unity[11] = {4096, 4096, 4096, 4096, 4096, 4096, 4096, 4096, 4096, 4096, 4096};
+
+/* A block of so many samples, one of them another, through a used memory of two bands: the refusal, or 0, and then nothing has changed. */
+static void block_of(int number, int channels, size_t length, size_t at, int32_t sample)
+{
+    struct places memory = places_new((size_t)length_of(2, channels));
+    struct places input = places_new(length), output = places_new(length);
+    int32_t before[6] = {8388607, -8388608, 100000, -1, 7, 0}, after[6];
+    oeq_prepare(2, channels, memory.lent, memory.length);
+    CHECK(oeq_block(memory.lent, memory.length, unity, 2, before, 6, after, 6) == 6 / channels, "%d channels", channels);
+    for (size_t i = 0; i < length; i++)
+        input.lent[i] = i == at ? sample : (int32_t)i;
+    places_mark(memory);
+    places_mark(output);
+    int64_t answer = oeq_block(memory.lent, memory.length, unity, 2, input.lent, length, output.lent, length);
+    if (number == 0) {
+        CHECK(answer == (int64_t)(length / (size_t)channels), "%d channels, %zu samples: %lld", channels, length, (long long)answer);
+    } else {
+        IS_REFUSAL(answer, number);
+        CHECK(places_same(memory) && places_same(output), "%d channels, %zu samples, refused %d", channels, length, number);
+    }
+    places_free(memory);
+    places_free(input);
+    places_free(output);
+}
+
+/* Whole frames, at most 4,096 of them: lengths around nothing, 4,096 and 8,192 samples. */
+static void block_lengths(void)
+{
+    for (size_t start = 0; start <= 8192; start += 4096)
+        for (size_t length = start < 6 ? start : start - 6; length <= start + 6; length++) {
+            block_of(length > 4096 ? 7 : 0, 1, length, 0, 0);
+            block_of(length % 2 ? 6 : length > 8192 ? 7 : 0, 2, length, 0, 0);
+        }
+}
+
+/* One sample of either side, in the first, a middle or the last frame. */
+static void bad_samples(void)
+{
+    static const size_t frames[] = {0, 1, 31, 32, 33, 2047, 4095};
+    for (size_t i = 0; i < sizeof frames / sizeof *frames; i++)
+        for (size_t side = 0; side < 2; side++)
+            for (size_t j = 0; j < 4; j++) {
+                block_of(8, 2, 8192, 2 * frames[i] + side, wrong_samples[j]);
+                block_of(0, 2, 8192, 2 * frames[i] + side, j % 2 ? OEQ_SAMPLE_MOST : OEQ_SAMPLE_LEAST);
+            }
+    block_of(8, 2, 2, 1, 8388608);
+    block_of(8, 1, 1, 0, -8388609);
+}
+
+/* Counts that are not allowed, in memory as long as the formula would give them, with as many gains. */
+static void counts_with_their_length(void)
+{
+    static const int counts[][2] = {{1, 1}, {1, 2}, {2, 0}, {10, 0}, {2, 3}, {10, 3}, {2, 4}, {11, 1}, {11, 2}};
+    for (size_t i = 0; i < sizeof counts / sizeof *counts; i++) {
+        struct places memory = places_new((size_t)length_of(counts[i][0], counts[i][1]));
+        int32_t input[12] = {0}, output[12];
+        memset(memory.lent, 0, memory.length * sizeof(int32_t));
+        memory.lent[0] = counts[i][0];
+        memory.lent[1] = counts[i][1];
+        places_mark(memory);
+        IS_REFUSAL(oeq_block(memory.lent, memory.length, unity, (size_t)counts[i][0], input, 12, output, 12), 3);
+        CHECK(places_same(memory), "%d bands, %d channels", counts[i][0], counts[i][1]);
+        places_free(memory);
+    }
 }
 
 void block_refusals(int rounds)
@@ -90,6 +185,9 @@ void block_refusals(int rounds)
     for (int round = 0; round < rounds; round++)
         for (int bands = 2; bands <= 10; bands++)
             for (int set = 0; set < 1 << FAULTS; set++)
-                call_with(bands, set);
+                call_with(bands, 1 + (round + set + bands) % 2, set);
     IS_REFUSAL(oeq_block(NULL, 0, NULL, 0, NULL, 0, NULL, 0), 3);
+    block_lengths();
+    bad_samples();
+    counts_with_their_length();
 }

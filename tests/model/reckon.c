@@ -1,17 +1,17 @@
-/* reckon GAIN.. <samples >outputs: 24-bit samples through the tree, a gain for each band, lowest first. The delay is taken out, and
-   zeros follow the input: for eight gains, what eqwave has to write. */
+/* reckon CHANNELS GAIN.. <samples >outputs: frames of 24-bit samples through the tree, a gain for each band, lowest first. The delay is
+   taken out, and zeros follow the input: for eight gains, what eqwave has to write. */
 #include <stdio.h>
 #include <stdlib.h>
 #include <string.h>
 #include "tree.h"
 
-enum { ROOM = TREE_LINE };
+enum { ROOM = TREE_LINE * TREE_MOST_CHANNELS };
 
 static struct tree tree;
 static int32_t gains[TREE_MOST_BANDS], input[ROOM], output[ROOM];
-static int left_out;
+static size_t left_out;
 
-/* Reads up to ROOM samples. */
+/* Reads up to ROOM samples: whole frames, since the input has no part of one and ROOM is even. */
 static size_t get(void)
 {
     uint8_t bytes[3];
@@ -26,7 +26,7 @@ static size_t get(void)
 /* Equalises so many samples and writes those that come after the delay. */
 static void put(size_t n)
 {
-    tree_block(&tree, gains, input, output, n);
+    tree_block(&tree, gains, input, output, n / (size_t)tree.channels);
     for (size_t i = 0; i < n; i++)
         if (left_out > 0)
             left_out--;
@@ -36,18 +36,18 @@ static void put(size_t n)
 
 int main(int argc, char **argv)
 {
-    int bands = argc - 1;
-    size_t n;
-    if (bands < 2 || bands > TREE_MOST_BANDS)
+    int channels = argc > 1 ? atoi(argv[1]) : 0, bands = argc - 2;
+    size_t n, late;
+    if (bands < 2 || bands > TREE_MOST_BANDS || channels < 1 || channels > TREE_MOST_CHANNELS)
         return 1;
     for (int i = 0; i < bands; i++)
-        gains[i] = atoi(argv[i + 1]);
-    tree_prepare(&tree, bands);
-    size_t delay = 9 * ((1u << (bands - 1)) - 1);
-    left_out = (int)delay;
+        gains[i] = atoi(argv[i + 2]);
+    tree_prepare(&tree, bands, channels);
+    late = (size_t)channels * 9 * ((1u << (bands - 1)) - 1);
+    left_out = late;
     while ((n = get()) > 0)
         put(n);
     memset(input, 0, sizeof input);
-    put(delay);
+    put(late);
     return fflush(stdout) ? 1 : 0;
 }

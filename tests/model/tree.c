@@ -25,8 +25,8 @@ static int32_t back(const int32_t *line, int size, int at, int d)
     return line[i];
 }
 
-/* One sample through the lines from line `bands` down; l is the stretch. */
-static struct stepped step(struct tree *tree, int bands, int l, const int32_t *gains, int32_t x)
+/* One sample of a side through its lines from line `bands` down, which is the first of `lines`; l is the stretch. */
+static struct stepped step(const struct tree *tree, int32_t (*lines)[TREE_LINE], int bands, int l, const int32_t *gains, int32_t x)
 {
     struct stepped below, here;
     if (bands == 1) {
@@ -35,7 +35,7 @@ static struct stepped step(struct tree *tree, int bands, int l, const int32_t *g
         return here;
     }
     int size = tree->size, at = tree->position;
-    int32_t *line = tree->line[tree->bands - bands];
+    int32_t *line = *lines;
     int64_t sum = 313 * (int64_t)x - 1338 * (int64_t)back(line, size, at, 2 * l)
                 + 3593 * (int64_t)back(line, size, at, 4 * l) - 8718 * (int64_t)back(line, size, at, 6 * l)
                 + 31158 * (int64_t)back(line, size, at, 8 * l) + 50000 * (int64_t)back(line, size, at, 9 * l)
@@ -45,23 +45,26 @@ static struct stepped step(struct tree *tree, int bands, int l, const int32_t *g
     int32_t low = (int32_t)limited(nearest(sum, 100000), INT32_MIN, INT32_MAX);
     here.aligned = back(line, size, at, size - 9 * l);
     line[at] = x;
-    below = step(tree, bands - 1, 2 * l, gains, low);
+    below = step(tree, lines + 1, bands - 1, 2 * l, gains, low);
     here.sum = below.sum + gains[bands - 1] * ((int64_t)here.aligned - below.aligned);
     return here;
 }
 
-void tree_prepare(struct tree *tree, int bands)
+void tree_prepare(struct tree *tree, int bands, int channels)
 {
     memset(tree, 0, sizeof *tree);
     tree->bands = bands;
+    tree->channels = channels;
     tree->size = 9 << (bands - 1);
 }
 
-void tree_block(struct tree *tree, const int32_t *gains, const int32_t *input, int32_t *output, size_t length)
+void tree_block(struct tree *tree, const int32_t *gains, const int32_t *input, int32_t *output, size_t frames)
 {
-    for (size_t i = 0; i < length; i++) {
-        struct stepped stepped = step(tree, tree->bands, 1, gains, input[i]);
-        output[i] = (int32_t)limited(nearest(stepped.sum, 4096), -8388608, 8388607);
+    for (size_t i = 0; i < frames; i++) {
+        for (int side = 0; side < tree->channels; side++) {
+            struct stepped stepped = step(tree, tree->line[side], tree->bands, 1, gains, *input++);
+            *output++ = (int32_t)limited(nearest(stepped.sum, 4096), -8388608, 8388607);
+        }
         tree->position = tree->position + 1 < tree->size ? tree->position + 1 : 0;
     }
 }

@@ -6,15 +6,17 @@
 #include <stddef.h>
 #include <stdint.h>
 
-enum { TREE_MOST_BANDS = 10, TREE_LINE = 9 << 9 };
+enum { TREE_MOST_BANDS = 10, TREE_MOST_CHANNELS = 2, TREE_LINE = 9 << 9 };
 
-/* line[0] is the ring of line M, the input. */
+/* line[s][0] is the ring of line M, the input, of side s; the left one is side 0. */
 struct tree {
-    int bands, size, position;
-    int32_t line[TREE_MOST_BANDS - 1][TREE_LINE];
+    int bands, channels, size, position;
+    int32_t line[TREE_MOST_CHANNELS][TREE_MOST_BANDS - 1][TREE_LINE];
 };
 
-void tree_prepare(struct tree *tree, int bands);
-void tree_block(struct tree *tree, const int32_t *gains, const int32_t *input, int32_t *output, size_t length);
+void tree_prepare(struct tree *tree, int bands, int channels);
+
+/* Interleaved frames, so many: sample i of side s is at place channels * i + s. */
+void tree_block(struct tree *tree, const int32_t *gains, const int32_t *input, int32_t *output, size_t frames);
 
 #endif

@@ -1,7 +1,8 @@
 """The block equaliser by the formulas of rules 3 and 5.
 
-A memory is a list of places: the count, the position, then for each line from line M down to line 2 a ring of 9·2^(M-1) places,
-where sample n of a line stands at place n modulo the ring's length.
+A memory is a list of places: the bands, the channels, the position, then the lines of the left side and, of two channels, those of
+the right: for each line from line M down to line 2 a ring of 9·2^(M-1) places, where sample n of a line stands at place n modulo the
+ring's length. A block is interleaved: sample n of side s, the left one 0, is at place channels·n + s.
 """
 
 # 01, Prototype: i and c(i), where c(i) is not 0.
@@ -11,6 +12,8 @@ assert sum(c for _, c in COEFFICIENTS) == 100016 and sum(abs(c) for _, c in COEF
 
 LEAST, MOST = -8388608, 8388607
 UNITY = 4096
+LONGEST = 4096  # frames of a block
+HEAD = 3  # places before the lines
 
 
 def nearest(z, d):
@@ -34,26 +37,36 @@ def ring_length(M):
     return 18 * 2 ** (M - 2)
 
 
-def memory_length(M):
-    """The places of a memory, or refusal 1."""
-    return ("places", 2 + (M - 1) * ring_length(M)) if 2 <= M <= 10 else ("refused", 1)
+def side_length(M):
+    """The places of one side's lines."""
+    return (M - 1) * ring_length(M)
 
 
-def prepare(M, memory):
-    """The delay and an empty history, or refusal 1 or 2."""
+def memory_length(M, channels):
+    """The places of a memory, or refusal 1 or 9."""
     if not 2 <= M <= 10:
         return ("refused", 1)
-    if len(memory) != memory_length(M)[1]:
+    if channels not in (1, 2):
+        return ("refused", 9)
+    return ("places", HEAD + channels * side_length(M))
+
+
+def prepare(M, channels, memory):
+    """The delay and an empty history, or refusal 1, 9 or 2."""
+    length = memory_length(M, channels)
+    if length[0] == "refused":
+        return length
+    if len(memory) != length[1]:
         return ("refused", 2)
-    memory[:] = [M, 0] + [0] * (len(memory) - 2)
+    memory[:] = [M, channels] + [0] * (len(memory) - 2)
     return ("delay", delay(M))
 
 
 def accepted(memory):
     """Whether a block call accepts the memory."""
-    if not memory or not 2 <= memory[0] <= 10 or len(memory) != memory_length(memory[0])[1]:
+    if len(memory) < 2 or memory_length(*memory[:2]) != ("places", len(memory)):
         return False
-    return 0 <= memory[1] < ring_length(memory[0])
+    return 0 <= memory[2] < ring_length(memory[0])
 
 
 def refusal(memory, gains, samples, output):
@@ -64,9 +77,9 @@ def refusal(memory, gains, samples, output):
         return 4
     if not all(0 <= g <= 16384 for g in gains):
         return 5
-    if len(output) != len(samples):
+    if len(output) != len(samples) or len(samples) % memory[1]:
         return 6
-    if len(samples) > 4096:
+    if len(samples) > LONGEST * memory[1]:
         return 7
     if not all(LEAST <= x <= MOST for x in samples):
         return 8
@@ -80,12 +93,12 @@ def below(line, L, past, new):
     return [limit(nearest(sum(s), 100000), -(2**31), 2**31 - 1) for s in zip(*taps)]
 
 
-def lines_of(memory, samples):
-    """Every line, k to its values: a ring's length of them before the block, then those of the block. Line 1 has no past."""
-    M, at, size = memory[0], memory[1], ring_length(memory[0])
+def lines_of(M, at, rings, samples):
+    """Every line of a side, k to its values: a ring's length of them before the block, then those of the block. Line 1 has no past."""
+    size = ring_length(M)
     lines, new = {}, samples
     for k in range(M, 1, -1):
-        ring = memory[2 + (M - k) * size : 2 + (M - k + 1) * size]
+        ring = rings[(M - k) * size : (M - k + 1) * size]
         lines[k] = ring[at:] + ring[:at] + new
         new = below(lines[k], 2 ** (M - k), size, len(samples))
     lines[1] = new
@@ -103,34 +116,40 @@ def held_back(lines, M, m, size, new):
     return [x - y for x, y in zip(lines[m][late : late + new], lines[m - 1][low : low + new])]
 
 
+def one_side(M, at, rings, gains, samples):
+    """A side's outputs, and its rings after the block."""
+    size, new = ring_length(M), len(samples)
+    lines = lines_of(M, at, rings, samples)
+    bands = [held_back(lines, M, m, size, new) for m in range(1, M + 1)]
+    output = [limit(nearest(sum(g * b for g, b in zip(gains, values)), UNITY), LEAST, MOST) for values in zip(*bands)]
+    after = (at + new) % size
+    kept = [lines[k][-size:] for k in range(M, 1, -1)]
+    return output, [z for last in kept for z in last[size - after :] + last[: size - after]]
+
+
 def block(memory, gains, samples, output):
-    """The number of samples written, or a refusal 3 to 8; memory and output are changed in place."""
+    """The number of frames written, or a refusal 3 to 8; memory and output are changed in place."""
     number = refusal(memory, gains, samples, output)
     if number:
         return ("refused", number)
-    M, size, new = memory[0], ring_length(memory[0]), len(samples)
-    lines = lines_of(memory, samples)
-    bands = [held_back(lines, M, m, size, new) for m in range(1, M + 1)]
-    for n, values in enumerate(zip(*bands)):
-        output[n] = limit(nearest(sum(g * b for g, b in zip(gains, values)), UNITY), LEAST, MOST)
-    position = (memory[1] + new) % size
-    for k in range(M, 1, -1):
-        last = lines[k][-size:]
-        start = 2 + (M - k) * size
-        memory[start : start + size] = last[size - position :] + last[: size - position]
-    memory[1] = position
-    return ("written", new)
+    M, channels, at = memory[:HEAD]
+    for s in range(channels):
+        start, end = HEAD + s * side_length(M), HEAD + (s + 1) * side_length(M)
+        output[s::channels], memory[start:end] = one_side(M, at, memory[start:end], gains, samples[s::channels])
+    frames = len(samples) // channels
+    memory[2] = (at + frames) % ring_length(M)
+    return ("written", frames)
 
 
-def prepared(M):
+def prepared(M, channels=1):
     """A memory of an empty history."""
-    memory = [0] * memory_length(M)[1]
-    assert prepare(M, memory) == ("delay", delay(M))
+    memory = [0] * memory_length(M, channels)[1]
+    assert prepare(M, channels, memory) == ("delay", delay(M))
     return memory
 
 
 def outputs(M, gains, samples):
-    """What a prepared memory makes of up to 4,096 samples."""
+    """What a prepared memory of one channel makes of up to 4,096 samples."""
     output = [0] * len(samples)
     assert block(prepared(M), gains, samples, output) == ("written", len(samples))
     return output
@@ -153,3 +172,22 @@ def check_bench():
     assert at(2, [2048, 2048], [1, -1, 3], (9, 10, 11)) == [1, -1, 2]
     assert at(2, [8192, 8192], [8000000, -8000000], (9, 10)) == [8388607, -8388608]
     assert [delay(M) for M in (2, 8, 10)] == [9, 1143, 4599]
+
+
+def check_sides():
+    """Each side of two channels is what one channel makes of it, and so are its places; either side may be the left one."""
+    left, right = [100000, -1, 8388607, 7], [-8388608, 16, 0, 3]
+    for M in (2, 3):
+        gains, alone = [1000 * m + 500 for m in range(M)], {}
+        for name, side in (("left", left), ("right", right)):
+            memory, output = prepared(M), [0] * 4
+            assert block(memory, gains, side, output) == ("written", 4)
+            alone[name] = output, memory[HEAD:]
+        for first, second, one, other in ((left, right, "left", "right"), (right, left, "right", "left")):
+            memory, output = prepared(M, 2), [0] * 8
+            frames = [first[0], second[0], first[1], second[1], first[2], second[2], first[3], second[3]]
+            assert block(memory, gains, frames, output) == ("written", 4)
+            assert ([output[2 * n] for n in range(4)], [output[2 * n + 1] for n in range(4)]) == (alone[one][0], alone[other][0])
+            assert memory == [M, 2, 4] + alone[one][1] + alone[other][1]
+    assert [memory_length(M, 1)[1] for M in (2, 8, 10)] == [21, 8067, 41475]
+    assert [memory_length(M, 2)[1] for M in (2, 8, 10)] == [39, 16131, 82947]

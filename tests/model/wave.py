@@ -15,7 +15,7 @@ def chunk(name, contents, size=None):
 
 def fmt(rate=48000, bits=24, tag=1, channels=1, block=None, byte_rate=None):
     """A `fmt ` chunk."""
-    block = bits // 8 if block is None else block
+    block = channels * bits // 8 if block is None else block
     byte_rate = rate * block if byte_rate is None else byte_rate
     return chunk(b"fmt ", struct.pack("<HHIIHH", tag, channels, rate, byte_rate, block, bits))
 
@@ -26,9 +26,9 @@ def riff(*chunks, size=None, first=b"RIFF", form=b"WAVE"):
     return first + struct.pack("<I", len(body) if size is None else size) + body
 
 
-def file24(data, rate=48000):
+def file24(data, rate=48000, channels=1):
     """A file of 24-bit samples."""
-    return riff(fmt(rate), chunk(b"data", data))
+    return riff(fmt(rate, channels=channels), chunk(b"data", data))
 
 
 # 01, The program: the whole case. The samples are 1 and -1.
@@ -50,11 +50,13 @@ def little(data):
 def right(body):
     """Whether the contents of a `fmt ` chunk have the right values."""
     tag, channels, rate, byte_rate, block, bits = struct.unpack("<HHIIHH", body)
-    return (tag, channels) == (1, 1) and rate in RATES and bits in (16, 24) and block * 8 == bits and byte_rate == rate * block
+    if tag != 1 or channels not in (1, 2) or rate not in RATES or bits not in (16, 24):
+        return False
+    return block * 8 == channels * bits and byte_rate == rate * block
 
 
 def read(lent):
-    """The reader: (rate, bits, length, start), or a refusal number."""
+    """The reader: (rate, bits, length, start, channels), or a refusal number."""
     front = lent[:4096]
     if len(front) < 12 or front[:4] != b"RIFF" or front[8:12] != b"WAVE":
         return 21
@@ -71,25 +73,28 @@ def read(lent):
             body = front[at + 8 : at + 24]
             if sound or not right(body):
                 return 23
-            sound = (little(body[4:8]), little(body[14:16]))
+            sound = (little(body[4:8]), little(body[14:16]), little(body[2:4]))
         elif name == b"data":
             if not sound:
                 return 22
-            if size % (sound[1] // 8):
+            rate, bits, channels = sound
+            if size % (channels * bits // 8):
                 return 25
-            return (*sound, size, at + 8)
+            return (rate, bits, size, at + 8, channels)
         at += 8 + size
 
 
-def write(room, rate, length):
+def write(room, rate, length, channels):
     """The writer: the header of so many bytes of 24-bit samples, or a refusal number."""
     if room != 44:
         return 27
     if rate not in RATES:
         return 28
-    if length % 3 or length > LARGEST:
+    if channels not in (1, 2):
+        return 9
+    if length % (3 * channels) or length > LARGEST:
         return 26
-    return riff(fmt(rate), chunk(b"data", b"", length), size=length + 36)
+    return riff(fmt(rate, channels=channels), chunk(b"data", b"", length), size=length + 36)
 
 
 # ---- the codec

@@ -17,18 +17,25 @@ use printing::signed_field;
 use printing::text;
 use printing::told;
 
+// The counts that a call asks for.
+fn counts(bands: i32, channels: i32) {
+    signed_field(bands);
+    signed_field(channels);
+}
+
 pub fn length() {
     let bands = place(word());
+    let channels = place(word());
     text(b"length");
-    signed_field(bands);
-    told(answer(length_parts(memory_length(bands))));
+    counts(bands, channels);
+    told(answer(length_parts(memory_length(bands, channels))));
     line();
 }
 
-fn prepare_in(bands: i32, memory: &mut [i32], kept: &[i32]) {
+fn prepare_in(bands: i32, channels: i32, memory: &mut [i32], kept: &[i32]) {
     text(b"prepare");
-    signed_field(bands);
-    told(answer(prepared_parts(prepare(bands, memory))));
+    counts(bands, channels);
+    told(answer(prepared_parts(prepare(bands, channels, memory))));
     compared(memory, kept);
     line();
 }
@@ -36,11 +43,12 @@ fn prepare_in(bands: i32, memory: &mut [i32], kept: &[i32]) {
 // Prepare on the first so many places.
 pub fn prepared(memory: &mut [i32], kept: &[i32]) {
     let bands = place(word());
+    let channels = place(word());
     let n = front(word() as usize, memory);
-    prepare_in(bands, &mut memory[..n], kept);
+    prepare_in(bands, channels, &mut memory[..n], kept);
 }
 
-// Block, and on the line before it what is lent: the memory's length, its count and its position, the gains, the input and the output's length.
+// Block, and on the line before it what is lent: the memory's length, its counts and its position, the gains, the input and the output's length.
 fn block_in(
     memory: &mut [i32],
     gains: &[i32],
@@ -49,7 +57,7 @@ fn block_in(
     kept: &[i32],
     marked: &[i32],
 ) {
-    let n = front(2, memory);
+    let n = front(3, memory);
     text(b"block");
     count(memory.len());
     list(&memory[..n]);
