@@ -31,6 +31,10 @@ module _ (R L : Type 0) (before after : L) (result r : R) where
   pub refuses-here : (test : Bool) (cs : List (Check R)) → test ≡ false → Done (decide (record { holds = test; otherwise = r } ∷ cs) before result after) r before
   refuses-here test cs e = refuses test r cs e refl
 
+  -- the last of the checks, whose case is worked out
+  pub refuses-last : (test : Bool) (case : R) → test ≡ false → r ≡ case → Done (decide (record { holds = test; otherwise = case } ∷ []) before result after) r before
+  refuses-last test case e d = refuses test case [] e d
+
   pub goes-on : (lent : L) (test : Bool) (case : R) (cs : List (Check R)) → test ≡ true → Done (decide cs before result after) r lent →
       Done (decide (record { holds = test; otherwise = case } ∷ cs) before result after) r lent
   unfolding decide
@@ -78,11 +82,6 @@ module _ {R L : Type 0} (before after : L) (result : R) where
       by true f g = g refl
       by false f g = f refl
 
-pub chosen-all : {R : Type 0} (result : R) (cs : List (Check R)) → allHold cs ≡ true → choose cs result ≡ result
-unfolding choose allHold
-chosen-all result [] e = refl
-chosen-all result (c ∷ cs) e = rw (and-left (c .holds) (allHold cs) e) (chosen-all result cs (and-right (c .holds) (allHold cs) e))
-
 pub chosen-first : {R : Type 0} (result : R) {cs : List (Check R)} {r : R} → First cs r → choose cs result ≡ r
 unfolding choose
 chosen-first result (here e) = rw e
@@ -102,6 +101,11 @@ decided before after result (c ∷ cs) = by (c .holds) (decided before after res
 -- what holds of each case under the tests that lead to it holds of that answer too
 pub chosen-every : {R : Type 0} (result : R) (P : R → Type 0) (cs : List (Check R)) → Each P cs result → P (choose cs result)
 chosen-every result P cs h = subst P (decided [] [] result cs) (every {L = List ℕ} [] [] result P cs h)
+
+pub first-fails : {R : Type 0} {cs : List (Check R)} {r : R} → First cs r → allHold cs ≡ false
+unfolding allHold
+first-fails (here e) = rw e
+first-fails (later e f) = rw e (first-fails f)
 
 pub all-or-first : {R : Type 0} (cs : List (Check R)) → (allHold cs ≡ true) ⊎ ((r : R) × First cs r)
 unfolding allHold
@@ -137,14 +141,6 @@ module _ {R A : Type 0} (answerOf : R → Answer A) (cs : List (Check R)) (resul
   -- an accepted one has none
   pub chosen-holds : (a : A) → allRefuse answerOf cs ≡ true → answerOf (choose cs result) ≡ accepted a → allHold cs ≡ true
   chosen-holds a e d = unnumbered-holds e (ap numberIn d)
-
-  -- a refusal: some check failed
-  pub chosen-fails : (numberIn (answerOf (choose cs result)) ≡ 0 → ⊥) → numberIn (answerOf result) ≡ 0 → allHold cs ≡ false
-  chosen-fails n z = by (allHold cs) refl
-    where
-      by : (t : Bool) → allHold cs ≡ t → t ≡ false
-      by true e = absurd (n (ap (λ (r : R). numberIn (answerOf r)) (chosen-all result cs e) ∙ z))
-      by false e = refl
 
 module _ {R L A : Type 0} (answerOf : R → Answer A) (cs : List (Check R)) (before after : L) (result : R) where
   pub accepted-holds : (a : A) → allRefuse answerOf cs ≡ true → answerOf (decide cs before result after .result) ≡ accepted a → allHold cs ≡ true

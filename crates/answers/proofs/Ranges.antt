@@ -6,8 +6,9 @@ use Prim.Native.Nat.{ℕ, zero, suc, _+_, _≤_, _<_, _^_}
 use native.Mathlib.Nat.{le-of-suc-le-suc, not-suc-le-zero}
 use native.Mathlib.Numerals.{add-one}
 use native.Mathlib.Omega.{arith}
+use native.Mathlib.Decide.{decLt}
 use borrow.Author.Needs.{sfits-of}
-use borrow.Author.Tests.{not-true, not-false, leb-true, le-leb}
+use borrow.Author.Tests.{not-true, not-false, leb-true, leb-false, le-leb}
 use lib.Dec.{leb}
 use lib.ListN.{length, getD, drop, drop-of-length-le}
 use lib.Seq.{drop-cons}
@@ -16,7 +17,7 @@ use lib.Signed.{mag, ltZ, leZ}
 use mir.Syntax.{w32}
 use mir.Val.{SFits, toZ, ofZ}
 use mir.Facts.{toZ-ofZ}
-use Rattle.answers.specs.Range.{within, firstOutside, allWithin}
+use Rattle.answers.specs.Range.{within, firstOutside, FirstAt, allWithin}
 
 -- ---- one number
 
@@ -48,8 +49,6 @@ first-past : (lo hi : ℤ) (s : List ℤ) (i : ℕ) → length s ≤ i → first
 unfolding firstOutside
 first-past lo hi s i h = rw (drop-of-length-le s h)
 
--- ---- all of a list
-
 -- a number before the first outside is within
 before-first : (lo hi : ℤ) (s : List ℤ) (i : ℕ) → i < firstOutside lo hi s → within lo hi (getD s i (pos 0)) ≡ true
 unfolding firstOutside
@@ -61,6 +60,35 @@ before-first lo hi (x ∷ xs) i h = by (within lo hi x) refl i h (λ k. before-f
     by false e i h rest = absurd (not-suc-le-zero h)
     by true e zero h rest = e
     by true e (suc i) h rest = rest i (le-of-suc-le-suc h)
+
+-- the number there is not
+at-first : (lo hi : ℤ) (s : List ℤ) → firstOutside lo hi s < length s → within lo hi (getD s (firstOutside lo hi s) (pos 0)) ≡ false
+unfolding firstOutside
+at-first lo hi [] h = absurd (not-suc-le-zero h)
+at-first lo hi (x ∷ xs) h = by (within lo hi x) refl h (at-first lo hi xs)
+  where
+    by : (t : Bool) → within lo hi x ≡ t → cond t (suc (firstOutside lo hi xs)) 0 < suc (length xs) →
+        (firstOutside lo hi xs < length xs → within lo hi (getD xs (firstOutside lo hi xs) (pos 0)) ≡ false) →
+        within lo hi (getD (x ∷ xs) (cond t (suc (firstOutside lo hi xs)) 0) (pos 0)) ≡ false
+    by false e h rest = e
+    by true e h rest = rest (le-of-suc-le-suc h)
+
+-- there is the first one outside
+pub first-at : (lo hi : ℤ) (s : List ℤ) → allWithin lo hi s ≡ false → FirstAt lo hi s (firstOutside lo hi s)
+first-at lo hi s e =
+    let h : firstOutside lo hi s < length s = leb-false (length s) (firstOutside lo hi s) e in
+    record { among = h; outside = at-first lo hi s h; none-before = before-first lo hi s }
+
+-- and of no other place is that true
+pub one-first : (lo hi : ℤ) (s : List ℤ) (i : ℕ) → FirstAt lo hi s i → i ≡ firstOutside lo hi s
+one-first lo hi s i f = by (decLt i (firstOutside lo hi s)) (decLt (firstOutside lo hi s) i)
+  where
+    by : Dec (i < firstOutside lo hi s) → Dec (firstOutside lo hi s < i) → i ≡ firstOutside lo hi s
+    by (yes h) d = absurd (false≢true (sym (f .outside) ∙ before-first lo hi s i h))
+    by (no n) (yes h) = absurd (false≢true (sym (at-first lo hi s (omega (arith, f .among))) ∙ f .none-before (firstOutside lo hi s) h))
+    by (no n) (no m) = omega arith
+
+-- ---- all of a list
 
 pub all-at : (lo hi : ℤ) (s : List ℤ) → allWithin lo hi s ≡ true → (i : ℕ) → i < length s → within lo hi (getD s i (pos 0)) ≡ true
 all-at lo hi s e i h = before-first lo hi s i (omega (arith, leb-true (length s) (firstOutside lo hi s) e))

@@ -7,7 +7,7 @@ use types.Run.{OneOf}
 use denote.Enum.Declared.{tagOf}
 use Prim.Native.Nat.{ℕ, zero, suc, _-_, _*_, _≤_}
 use native.Mathlib.Omega.{arith}
-use borrow.Author.Tests.{eq-eqb, le-leb, eqb-true, eqb-false, leb-true}
+use borrow.Author.Tests.{eq-eqb, ne-eqb, le-leb, eqb-true, eqb-false, leb-true}
 use lib.Dec.{leb}
 use lib.ListN.{length, take, drop, replicate, length-drop, length-append}
 use lib.Seq.{take-at, drop-append-le}
@@ -16,10 +16,11 @@ use Rattle.answers.specs.Answer.{numberIn}
 use Rattle.answers.specs.Checks.{check, allHold, Outcome, decide, Done}
 use Rattle.answers.specs.Unit.{blockLimit}
 use Rattle.answers.proofs.Laws.{and-left, and-right}
-use Rattle.octave.specs.Answer.{blockAnswer}
+use Rattle.octave.specs.Answer.{faultNumber, blockAnswer}
 use Rattle.octave.specs.Block.{blockChecks, equalised}
 use Rattle.octave.specs.declared.block.Blocked.{Blocked}
 use Rattle.octave.specs.declared.block.Blocked.the-variants as blocked
+use Rattle.octave.proofs.Refusals.{fault-number, block-held}
 use Rattle.octave.proofs.block.Blocked as declared
 use Rattle.samples.specs.Samples.{bytesOf, blockTo}
 use Rattle.samples.specs.declared.block.Stored.{Stored}
@@ -27,7 +28,7 @@ use Rattle.samples.proofs.Codec.{to-all}
 use Rattle.blocks.specs.declared.block.Equalised.{Equalised}
 use Rattle.blocks.specs.declared.block.Equalised.the-variants.{Bytes, Refused}
 use Rattle.blocks.specs.Equalise.{zeros, blockFor, lengthsFit, isWritten, equaliseOf}
-use Rattle.blocks.proofs.Outputs.{allInRange, in-range-drop, equalised-long, equalised-in-range, held-ran, held-whole, ran-held, refused-kept}
+use Rattle.blocks.proofs.Outputs.{allInRange, in-range-drop, equalised-long, equalised-in-range, held-ran, held-whole, refused-kept}
 
 -- ---- the answer of the block call
 
@@ -42,13 +43,13 @@ not-written (blocked.Written n) (inr (inr (inr (inl t)))) = absurd (omega arith)
 not-written (blocked.Written n) (inr (inr (inr (inr (inl t))))) = absurd (omega arith)
 not-written (blocked.Written n) (inr (inr (inr (inr (inr (inl t)))))) = absurd (omega arith)
 not-written (blocked.Written n) (inr (inr (inr (inr (inr (inr t)))))) = absurd (omega arith)
-not-written blocked.Memory t = refl
+not-written (blocked.Memory f) t = sym (ne-eqb (faultNumber f) 0 (λ e. omega (arith, fault-number f)))
 not-written blocked.GainCount t = refl
 not-written blocked.Gain t = refl
 not-written blocked.OutputLength t = refl
 not-written blocked.PartFrame t = refl
 not-written blocked.TooLong t = refl
-not-written blocked.Sample t = refl
+not-written (blocked.Sample i) t = refl
 
 -- ---- the lengths
 
@@ -109,7 +110,7 @@ module _ (memory gains input : List ℤ) (skipped : ℕ) (stored : List ℕ) (l 
       written = ap isWritten (sym (d .result-is)) ∙ e
 
       held : allHold (blockChecks memory gains input (zeros input)) ≡ true
-      held = ran-held memory gains input (zeros input) (eqb-true (numberIn (blockAnswer (blockFor memory gains input .result))) 0 written)
+      held = block-held memory gains input (zeros input) (eqb-true (numberIn (blockAnswer (blockFor memory gains input .result))) 0 written)
 
       o-is : o ≡ equalised memory gains input .1
       o-is = ap (λ (x : List ℤ × List ℤ). x .1) (d .lent-is ∙ ap (λ (x : Outcome Blocked (List ℤ × List ℤ)). x .lent) (held-ran memory gains input (zeros input) held))

@@ -1,5 +1,5 @@
 -- A block call that is accepted answers as many outputs as samples, each in range; one that is refused leaves the memory. Assumes nothing.
-use mathlib.Core.Path.{_≡_, refl, sym, ap, subst, _∙_}
+use mathlib.Core.Path.{_≡_, refl, sym, subst, _∙_}
 use mathlib.Core.Bool.{Bool, true, false, cond}
 use mathlib.Core.List.{List, [], _∷_}
 use Prim.Native.Nat.{ℕ, zero, suc, _%_}
@@ -10,11 +10,10 @@ use lib.IntN.{ℤ, pos}
 use lib.Signed.{ltZ, leZ, _≤ℤ_, ltZ-yes, clashℤ}
 use Rattle.answers.specs.Answer.{numberIn}
 use Rattle.answers.specs.Checks.{allHold}
-use Rattle.answers.specs.Judging.{allRefuse}
 use Rattle.answers.specs.Range.{within, firstOutside, allWithin}
 use Rattle.answers.specs.Unit.{leastSample, mostSample, largestGain, unity}
 use Rattle.answers.proofs.Ranges.{all-cons, cons-all}
-use Rattle.answers.proofs.Laws.{and-left, and-right, all-accept, decided, unnumbered-holds, refused-keeps}
+use Rattle.answers.proofs.Laws.{and-left, and-right, all-accept, refused-keeps}
 use Rattle.whole.specs.Nearest.{nearest}
 use Rattle.whole.proofs.Limit.{limit-least, limit-most}
 use Rattle.tree.specs.Signal.{gainOf}
@@ -22,7 +21,6 @@ use Rattle.frames.specs.Frames.{frame, woven}
 use Rattle.frames.proofs.Laws.{whole-frames, woven-length}
 use Rattle.samples.proofs.InRange.{all-append}
 use Rattle.weighing.specs.Weighing.{outOf, bandSum, outputs}
-use Rattle.octave.specs.declared.block.Blocked.{Blocked}
 use Rattle.octave.specs.declared.block.Blocked.the-variants.{Written}
 use Rattle.octave.specs.Answer.{blockAnswer}
 use Rattle.octave.specs.Memory.{channelsIn, accepts, bandsIn}
@@ -102,10 +100,6 @@ module _ (m gains input : List ℤ) where
 
 -- ---- the block call
 
-all-refuse : (m gains input before : List ℤ) → allRefuse blockAnswer (blockChecks m gains input before) ≡ true
-unfolding allRefuse
-all-refuse m gains input before = refl
-
 module _ (m gains input before : List ℤ) where
   pub held-ran : allHold (blockChecks m gains input before) ≡ true → blockOf m gains input before ≡ record { result = Written (framesOf m input); lent = equalised m gains input }
   held-ran h = all-accept (m, before) (equalised m gains input) (Written (framesOf m input)) (blockChecks m gains input before) h
@@ -120,14 +114,6 @@ module _ (m gains input before : List ℤ) where
       let framed = and-right (eqb (length before) (length input)) _ alike in
       eqb-true (length input % channelsIn m) 0 (and-left (eqb (length input % channelsIn m) 0) _ framed)
 
-  -- an answer without a number was accepted
-  pub ran-held : numberIn (blockAnswer (blockOf m gains input before .result)) ≡ 0 → allHold (blockChecks m gains input before) ≡ true
-  ran-held e =
-      let cs = blockChecks m gains input before in
-      let r = Written (framesOf m input) in
-      unnumbered-holds blockAnswer cs r (all-refuse m gains input before)
-      (sym (ap (λ (q : Blocked). numberIn (blockAnswer q)) (decided (m, before) (equalised m gains input) r cs)) ∙ e)
-
-  -- one with a number was refused, and leaves what was lent
+  -- an answer with a number was refused, and leaves what was lent
   pub refused-kept : (numberIn (blockAnswer (blockOf m gains input before .result)) ≡ 0 → ⊥) → blockOf m gains input before .lent ≡ (m, before)
   refused-kept n = refused-keeps blockAnswer (blockChecks m gains input before) (m, before) (equalised m gains input) (Written (framesOf m input)) n refl

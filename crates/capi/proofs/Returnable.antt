@@ -2,7 +2,7 @@
 use mathlib.Core.Path.{_≡_, refl}
 use mathlib.Core.Bool.{true, false}
 use mathlib.Core.List.{List, [], _∷_}
-use Prim.Native.Nat.{ℕ, _+_, _*_, _-_, _<_, _≤_, _^_}
+use Prim.Native.Nat.{ℕ, _+_, _*_, _-_, _%_, _<_, _≤_, _^_}
 use native.Mathlib.Omega.{arith}
 use borrow.Author.Tests.{leb-true, le-ltb}
 use lib.Dec.{eqb, leb, ltb, lit<}
@@ -10,19 +10,22 @@ use lib.ListN.{length}
 use lib.IntN.{ℤ, pos, negsuc, natAbs, _-ℤ_, _*ℤ_}
 use lib.Signed.{ltZ, _≤ℤ_}
 use Rattle.answers.specs.Checks.{check}
-use Rattle.answers.specs.Unit.{blockLimit}
+use Rattle.answers.specs.Range.{firstOutside, allWithin}
+use Rattle.answers.specs.Unit.{leastSample, mostSample, blockLimit}
 use Rattle.answers.proofs.Laws.{every, chosen-every, eaching}
 use Rattle.whole.proofs.Signed.{down, Diff, lit, _⊖_, _⊗_, about, read-le}
-use Rattle.octave.specs.Answer.{lengthAnswer, preparedAnswer, blockAnswer}
+use Rattle.octave.specs.Answer.{faultNumber, lengthAnswer, preparedAnswer, blockAnswer}
 use Rattle.octave.specs.Block.{framesOf, blockChecks, equalised, blockOf}
-use Rattle.octave.specs.Memory.{memoryLength, countAllowed, channelsAllowed, memoryLengthOf, prepared, prepareChecks, prepareOf}
+use Rattle.octave.specs.Memory.{accepts, channelsIn, memoryLength, countAllowed, channelsAllowed, memoryLengthOf, prepared, prepareChecks, prepareOf}
 use Rattle.octave.specs.declared.block.Blocked.{Blocked}
 use Rattle.octave.specs.declared.block.Blocked.the-variants.{Written}
+use Rattle.octave.specs.declared.memory.Fault.{Fault}
 use Rattle.octave.specs.declared.memory.Length.{Length}
 use Rattle.octave.specs.declared.memory.Length.the-variants.{Places, BandCount, ChannelCount}
 use Rattle.octave.specs.declared.memory.Prepared.{Prepared}
 use Rattle.octave.specs.declared.memory.Prepared.the-variants.{Delay}
 use Rattle.octave.proofs.Layouts.{line-small, memory-small}
+use Rattle.octave.proofs.Refusals.{fault-number, bad-place}
 use Rattle.octave.proofs.Ranges.{bands-of, channels-of}
 use Rattle.gain.specs.Answer.{answerOf}
 use Rattle.gain.specs.Promise.{commandGain}
@@ -41,7 +44,7 @@ use Rattle.samples.specs.declared.single.Put.the-variants.{Done}
 use Rattle.samples.specs.declared.single.Sample.{Sample}
 use Rattle.wave_writer.specs.declared.writer.Written as writer
 use Rattle.encoding.specs.Encode.{halfway}
-use Rattle.encoding.specs.Parts.{Returnable, Counted}
+use Rattle.encoding.specs.Parts.{Refusal, Returnable, Counted}
 
 -- ---- the equaliser's calls
 
@@ -54,6 +57,13 @@ delay-small bands t = omega (arith, line-small (natAbs bands) (bands-of bands t 
 
 frames-few : (memory input : List ℤ) → leb (framesOf memory input) blockLimit ≡ true → framesOf memory input < 2 ^ 63
 frames-few memory input t = omega (arith, leb-true (framesOf memory input) blockLimit t)
+
+fault-returned : (f : Fault) → Refusal (faultNumber f) 0
+fault-returned f = let n = fault-number f in (omega (arith, n .0), omega (arith, n .1), omega arith)
+
+sample-returned : (memory input : List ℤ) → accepts memory ≡ true → eqb (length input % channelsIn memory) 0 ≡ true → leb (framesOf memory input) blockLimit ≡ true →
+    allWithin leastSample mostSample input ≡ false → Refusal 8 (firstOutside leastSample mostSample input)
+sample-returned memory input a w f b = (omega arith, omega arith, omega (arith, bad-place memory input a w f b))
 
 pub length-counted : (bands channels : ℤ) → Counted (lengthAnswer (memoryLengthOf bands channels))
 length-counted bands channels =
@@ -68,7 +78,7 @@ prepare-counted bands channels memory =
 pub block-counted : (memory gains input output : List ℤ) → Counted (blockAnswer (blockOf memory gains input output .result))
 block-counted memory gains input output =
     every (memory, output) (equalised memory gains input) (Written (framesOf memory input)) (λ (r : Blocked). Counted (blockAnswer r))
-    (blockChecks memory gains input output) (search (eaching, frames-few) depth 20)
+    (blockChecks memory gains input output) (search (eaching, fault-returned, sample-returned, frames-few) depth 20)
 
 -- ---- the header's writer and the codec
 

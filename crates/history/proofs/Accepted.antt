@@ -1,5 +1,5 @@
 -- An accepted block call ran its samples, and they and its gains were in range; so no line's value is ever limited. Assumes nothing.
-use mathlib.Core.Path.{_≡_, refl, sym, ap, _∙_}
+use mathlib.Core.Path.{_≡_, ap}
 use mathlib.Core.Bool.{true}
 use mathlib.Core.List.{List, [], _∷_, _++_}
 use Prim.Native.Nat.{ℕ, zero, suc, _+_, _≤_, _<_}
@@ -9,28 +9,23 @@ use lib.ListN.{length, getD, List·getD-eq-default}
 use lib.IntN.{ℤ, pos, natAbs}
 use Rattle.answers.specs.Answer.{accepted, numberIn}
 use Rattle.answers.specs.Checks.{allHold}
-use Rattle.answers.specs.Judging.{allRefuse}
 use Rattle.answers.specs.Range.{within, allWithin}
 use Rattle.answers.specs.Unit.{leastSample, mostSample, largestSample, largestGain}
-use Rattle.answers.proofs.Laws.{and-left, and-right, decided, all-accept, unnumbered-holds}
+use Rattle.answers.proofs.Laws.{and-left, and-right, all-accept}
 use Rattle.answers.proofs.Ranges.{all-at}
 use Rattle.whole.proofs.Signed.{about}
 use Rattle.tree.specs.Prototype.{published}
 use Rattle.tree.specs.Signal.{Signal, signalOf}
 use Rattle.tree.proofs.NeverLimited.{published-low-pass-never-limited}
-use Rattle.octave.specs.declared.block.Blocked.{Blocked}
 use Rattle.octave.specs.declared.block.Blocked.the-variants.{Written}
 use Rattle.octave.specs.Answer.{blockAnswer}
 use Rattle.octave.specs.Block.{framesOf, blockChecks, equalised, blockOf}
 use Rattle.octave.proofs.Ranges.{within-parts}
+use Rattle.octave.proofs.Refusals.{block-held}
 use Rattle.history.specs.History.{Call, afterCall, AllAccepted, joined}
 use Rattle.history.proofs.Holds.{Unlimited, Free, free-of}
 
 -- ---- an accepted call
-
-all-refuse : (m gains input before : List ℤ) → allRefuse blockAnswer (blockChecks m gains input before) ≡ true
-unfolding allRefuse
-all-refuse m gains input before = refl
 
 -- an accepted call ran its samples: every check held
 pub record RanIt (m gains input before : List ℤ) : Type 0 where
@@ -53,9 +48,7 @@ module _ (m gains input before : List ℤ) where
       let cs = blockChecks m gains input before in
       let after = equalised m gains input in
       let r = Written (framesOf m input) in
-      let held : allHold cs ≡ true =
-      unnumbered-holds blockAnswer cs r (all-refuse m gains input before)
-      (sym (ap (λ (q : Blocked). numberIn (blockAnswer q)) (decided (m, before) after r cs)) ∙ e) in
+      let held = block-held m gains input before e in
       record { is = all-accept (m, before) after r cs held; held = held; gains-allowed = gains-held held; in-range = input-held held }
 
   pub accepted-ran : (k : ℕ) → blockAnswer (blockOf m gains input before .result) ≡ accepted k → RanIt m gains input before

@@ -2,4 +2,5 @@
 pub mod Ranges
 pub mod Layouts
 pub mod Memories
+pub mod Refusals
 pub mod Blocking

@@ -1,6 +1,5 @@
 -- The memory: the prepared one, and what an accepted one is. Assumes nothing.
 use mathlib.Core.Path.{_≡_, refl, sym, ap, subst, _∙_}
-use mathlib.Core.Logic.{⊎-elim}
 use mathlib.Core.Bool.{Bool, true, false, cond, _&&_, false≢true}
 use mathlib.Core.List.{List, [], _∷_, _++_, append-nil}
 use Prim.Native.Nat.{ℕ, suc, _+_, _-_, _*_, _^_, _≤_, _<_}
@@ -13,20 +12,17 @@ use lib.ListN.{length, take, drop, set, replicate, length-drop, drop-of-length-l
 use lib.Seq.{take-all}
 use lib.IntN.{ℤ, pos, negsuc, natAbs}
 use lib.Signed.{ltZ, nonNeg}
-use types.Run.{OneOf}
-use denote.Enum.Declared.{tagOf}
-use Rattle.answers.specs.Answer.{numberIn}
-use Rattle.answers.specs.Checks.{allHold, choose}
-use Rattle.answers.specs.Judging.{allRefuse}
-use Rattle.answers.proofs.Laws.{and-left, and-right, chosen-all, chosen-holds, chosen-fails}
+use Rattle.answers.specs.Checks.{allHold}
+use Rattle.answers.specs.Judging.{First, here, later}
+use Rattle.answers.proofs.Laws.{and-left, and-right, first-fails, chosen-first}
 use Rattle.tree.specs.Prototype.{published}
 use Rattle.tree.specs.Tree.{delay}
+use Rattle.octave.specs.declared.memory.Fault.{Fault}
+use Rattle.octave.specs.declared.memory.Fault.the-variants.{CountWrong, PositionOutside}
 use Rattle.octave.specs.declared.memory.Kept.{Kept}
-use Rattle.octave.specs.declared.memory.Kept.the-variants.{Holds, CountWrong, LengthWrong, PositionOutside}
-use Rattle.octave.specs.Answer.{keptAnswer}
-use Rattle.octave.specs.Memory.{lineLength, sidePlaces, memoryLength, countAllowed, channelsAllowed, prepared, Held, headPlaces, heldIn, memoryOf, bandsIn, channelsIn, positionWithin, memoryChecks, accepts, keptOf}
+use Rattle.octave.specs.declared.memory.Kept.the-variants.{Holds, Wrong}
+use Rattle.octave.specs.Memory.{lineLength, sidePlaces, memoryLength, countAllowed, channelsAllowed, prepared, Held, headPlaces, heldIn, memoryOf, bandsIn, channelsIn, positionWithin, memoryChecks, accepts, faultOf, keptOf}
 use Rattle.octave.proofs.Ranges.{Count, bands-of, channels-of}
-use Rattle.octave.proofs.memory.Kept as kept
 
 -- ---- the head and the lines
 
@@ -131,41 +127,46 @@ accepts-is m b c l n h =
 
 -- ---- how judging tells it
 
+-- the first check that fails is the fault
+pub wrong-is : (m : List ℤ) (f : Fault) → First (memoryChecks m) f → Wrong f ≡ keptOf m
+wrong-is m f h = rw (first-fails h) (ap Wrong (sym (chosen-first PositionOutside h)))
+
+pub right-is : (m : List ℤ) → accepts m ≡ true → Holds (bandsIn m) (channelsIn m) ≡ keptOf m
+right-is m e = rw e refl
+
 -- a memory with fewer than two places has no channel count
-pub too-short : (m : List ℤ) → length m < 2 → CountWrong ≡ keptOf m
-unfolding choose
-too-short [] h = refl
-too-short (x ∷ []) h = by (countAllowed x)
+pub too-short : (m : List ℤ) → length m < 2 → First (memoryChecks m) CountWrong
+too-short [] h = here refl
+too-short (x ∷ []) h = by (countAllowed x) refl
   where
-    by : (t : Bool) → CountWrong ≡ cond t CountWrong CountWrong
-    by true = refl
-    by false = refl
+    by : (t : Bool) → countAllowed x ≡ t → First (memoryChecks (x ∷ [])) CountWrong
+    by true e = later e (here refl)
+    by false e = here e
 too-short (x ∷ y ∷ m) h = absurd (omega arith)
 
-all-refuse : (m : List ℤ) → allRefuse keptAnswer (memoryChecks m) ≡ true
-unfolding allRefuse
-all-refuse m = refl
+abbrev holds : Kept → Bool
+holds (Holds b c) = true
+holds (Wrong f) = false
 
 module _ (m : List ℤ) (k : Kept) (judged : k ≡ keptOf m) where
-  -- one of the three cases that are no counts
-  pub kept-wrong : OneOf (1 ∷ 2 ∷ 3 ∷ []) (tagOf kept.the-type k) → accepts m ≡ false
-  kept-wrong t = chosen-fails keptAnswer (memoryChecks m) (Holds (bandsIn m) (channelsIn m)) (λ z. by k t (ap (λ (q : Kept). numberIn (keptAnswer q)) judged ∙ z)) refl
+  pub kept-wrong : (f : Fault) → k ≡ Wrong f → (accepts m ≡ false) × (f ≡ faultOf m)
+  kept-wrong f is = by (accepts m) (sym is ∙ judged)
     where
-      by : (k : Kept) → OneOf (1 ∷ 2 ∷ 3 ∷ []) (tagOf kept.the-type k) → numberIn (keptAnswer k) ≡ 0 → ⊥
-      by (Holds b c) t z = ⊎-elim (λ (e : _≡_ {A = ℕ} 0 1). omega arith) (⊎-elim (λ (e : _≡_ {A = ℕ} 0 2). omega arith) (λ (e : _≡_ {A = ℕ} 0 3). omega arith)) t
-      by CountWrong t z = omega arith
-      by LengthWrong t z = omega arith
-      by PositionOutside t z = omega arith
+      by : (t : Bool) → Wrong f ≡ cond t (Holds (bandsIn m) (channelsIn m)) (Wrong (faultOf m)) → (t ≡ false) × (f ≡ faultOf m)
+      by true e = absurd (false≢true (ap holds e))
+      by false e = (refl, cc)
 
   module _ (bands channels : ℕ) (is : k ≡ Holds bands channels) where
-    pub kept-right : accepts m ≡ true
-    kept-right = chosen-holds keptAnswer (memoryChecks m) (Holds (bandsIn m) (channelsIn m)) (bands, channels) (all-refuse m) (ap keptAnswer (sym judged ∙ is))
+    same : (t : Bool) → Holds bands channels ≡ cond t (Holds (bandsIn m) (channelsIn m)) (Wrong (faultOf m)) →
+        (t ≡ true) × (bands ≡ bandsIn m) × (channels ≡ channelsIn m)
+    same true e = (refl, cc, cc)
+    same false e = absurd (false≢true (sym (ap holds e)))
 
-    same : Holds bands channels ≡ Holds (bandsIn m) (channelsIn m)
-    same = sym is ∙ judged ∙ chosen-all (Holds (bandsIn m) (channelsIn m)) (memoryChecks m) kept-right
+    pub kept-right : accepts m ≡ true
+    kept-right = same (accepts m) (sym is ∙ judged) .0
 
     pub kept-bands : bands ≡ bandsIn m
-    kept-bands = let e = same in cc
+    kept-bands = same (accepts m) (sym is ∙ judged) .1
 
     pub kept-channels : channels ≡ channelsIn m
-    kept-channels = let e = same in cc
+    kept-channels = same (accepts m) (sym is ∙ judged) .2

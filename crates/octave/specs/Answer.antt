@@ -3,7 +3,7 @@ use Prim.Native.Nat.{ℕ}
 use Rattle.answers.specs.Answer.{Answer, accepted, refused}
 use Rattle.octave.specs.declared.memory.Length as length
 use Rattle.octave.specs.declared.memory.Prepared as prepared
-use Rattle.octave.specs.declared.memory.Kept as kept
+use Rattle.octave.specs.declared.memory.Fault as fault
 use Rattle.octave.specs.declared.block.Blocked as blocked
 
 -- rule 6.8, memory length
@@ -19,20 +19,19 @@ preparedAnswer prepared.the-variants.BandCount = refused 1 0
 preparedAnswer prepared.the-variants.ChannelCount = refused 9 0
 preparedAnswer prepared.the-variants.MemoryLength = refused 2 0
 
--- rule 6.8, block: a lent memory: its bands and channels, or the number that a block call refuses it with
-abbrev pub keptAnswer : kept.Kept → Answer (ℕ × ℕ)
-keptAnswer (kept.the-variants.Holds bands channels) = accepted (bands, channels)
-keptAnswer kept.the-variants.CountWrong = refused 3 0
-keptAnswer kept.the-variants.LengthWrong = refused 3 0
-keptAnswer kept.the-variants.PositionOutside = refused 3 0
+-- rule 6.8, block: the number of what is wrong with a lent memory
+abbrev pub faultNumber : fault.Fault → ℕ
+faultNumber fault.the-variants.CountWrong = 31
+faultNumber fault.the-variants.LengthWrong = 32
+faultNumber fault.the-variants.PositionOutside = 33
 
--- rule 6.8, block
+-- rule 6.8, block: 8 alone has a place, that of the sample
 abbrev pub blockAnswer : blocked.Blocked → Answer ℕ
 blockAnswer (blocked.the-variants.Written n) = accepted n
-blockAnswer blocked.the-variants.Memory = refused 3 0
+blockAnswer (blocked.the-variants.Memory f) = refused (faultNumber f) 0
 blockAnswer blocked.the-variants.GainCount = refused 4 0
 blockAnswer blocked.the-variants.Gain = refused 5 0
 blockAnswer blocked.the-variants.OutputLength = refused 6 0
 blockAnswer blocked.the-variants.PartFrame = refused 6 0
 blockAnswer blocked.the-variants.TooLong = refused 7 0
-blockAnswer blocked.the-variants.Sample = refused 8 0
+blockAnswer (blocked.the-variants.Sample i) = refused 8 i

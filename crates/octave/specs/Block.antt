@@ -5,7 +5,7 @@ use lib.Dec.{eqb, leb}
 use lib.ListN.{length}
 use lib.IntN.{ℤ, pos, natAbs}
 use Rattle.answers.specs.Checks.{Check, check, Outcome, decide}
-use Rattle.answers.specs.Range.{allWithin}
+use Rattle.answers.specs.Range.{firstOutside, allWithin}
 use Rattle.answers.specs.Unit.{leastSample, mostSample, largestGain, blockLimit}
 use Rattle.frames.specs.Frames.{sideOf, woven, behind, placesOf}
 use Rattle.tree.specs.Prototype.{published}
@@ -13,23 +13,23 @@ use Rattle.tree.specs.Signal.{gainOf}
 use Rattle.octave.specs.declared.block.Blocked.{Blocked}
 use Rattle.octave.specs.declared.block.Blocked.the-variants.{Written, Memory, GainCount, Gain, OutputLength, PartFrame, TooLong, Sample}
 use Rattle.lines.specs.Cascade.{Ran, run}
-use Rattle.octave.specs.Memory.{lineLength, sidePlaces, heldIn, memoryOf, bandsIn, channelsIn, accepts}
+use Rattle.octave.specs.Memory.{lineLength, sidePlaces, heldIn, memoryOf, bandsIn, channelsIn, accepts, faultOf}
 use Rattle.weighing.specs.Weighing.{outputs}
 
 -- rule 1.11: the frames of a block that a memory is for
 abbrev pub framesOf : (memory input : List ℤ) → ℕ
 framesOf memory input = length input / channelsIn memory
 
--- rule 6.8, block: its checks in order
+-- rule 6.8, block: its checks in order; 8 tells the place of the first bad sample
 abbrev pub blockChecks : (memory gains input output : List ℤ) → List (Check Blocked)
 blockChecks memory gains input output =
-    check (accepts memory) Memory ∷
+    check (accepts memory) (Memory (faultOf memory)) ∷
     check (eqb (length gains) (bandsIn memory)) GainCount ∷
     check (allWithin (pos 0) (pos largestGain) gains) Gain ∷
     check (eqb (length output) (length input)) OutputLength ∷
     check (eqb (length input % channelsIn memory) 0) PartFrame ∷
     check (leb (framesOf memory input) blockLimit) TooLong ∷
-    check (allWithin leastSample mostSample input) Sample ∷ []
+    check (allWithin leastSample mostSample input) (Sample (firstOutside leastSample mostSample input)) ∷ []
 
 -- rule 5.9: one side's samples through its own lines in turn, from the position on
 abbrev pub ranSide : (memory input : List ℤ) → (s : ℕ) → Ran

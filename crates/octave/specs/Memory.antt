@@ -15,8 +15,10 @@ use Rattle.octave.specs.declared.memory.Length.{Length}
 use Rattle.octave.specs.declared.memory.Length.the-variants as place-count
 use Rattle.octave.specs.declared.memory.Prepared.{Prepared}
 use Rattle.octave.specs.declared.memory.Prepared.the-variants.{Delay, BandCount, ChannelCount, MemoryLength}
+use Rattle.octave.specs.declared.memory.Fault.{Fault}
+use Rattle.octave.specs.declared.memory.Fault.the-variants.{CountWrong, LengthWrong, PositionOutside}
 use Rattle.octave.specs.declared.memory.Kept.{Kept}
-use Rattle.octave.specs.declared.memory.Kept.the-variants.{Holds, CountWrong, LengthWrong, PositionOutside}
+use Rattle.octave.specs.declared.memory.Kept.the-variants.{Holds, Wrong}
 
 -- rule 5.2: the places of a line of M bands, 9·2^(M-1)
 abbrev pub lineLength : ℕ → ℕ
@@ -93,7 +95,7 @@ abbrev pub positionWithin : ℕ → ℤ → Bool
 positionWithin size at = cond (ltZ at (pos 0)) false (ltb (natAbs at) size)
 
 -- rule 5.4: what a lent memory is judged by, in order
-abbrev pub memoryChecks : List ℤ → List (Check Kept)
+abbrev pub memoryChecks : List ℤ → List (Check Fault)
 memoryChecks memory =
     check (countAllowed (heldIn memory .count)) CountWrong ∷
     check (channelsAllowed (heldIn memory .channels)) CountWrong ∷
@@ -104,6 +106,10 @@ memoryChecks memory =
 abbrev pub accepts : List ℤ → Bool
 accepts memory = allHold (memoryChecks memory)
 
+-- rule 5.4: what is wrong with a memory that is not accepted: the first check that fails, and if it is none before, then the last
+abbrev pub faultOf : List ℤ → Fault
+faultOf memory = choose (memoryChecks memory) PositionOutside
+
 -- rule 5.4: a memory's counts, or what is wrong with it
 abbrev pub keptOf : List ℤ → Kept
-keptOf memory = choose (memoryChecks memory) (Holds (bandsIn memory) (channelsIn memory))
+keptOf memory = cond (accepts memory) (Holds (bandsIn memory) (channelsIn memory)) (Wrong (faultOf memory))

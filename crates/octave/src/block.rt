@@ -6,6 +6,7 @@ ghost use Rattle.octave.specs.Helpers.{KeptCounts, Judged};
 use crate::layout::HEAD;
 use crate::layout::POSITION;
 use crate::layout::line_length;
+use crate::memory::Fault;
 use crate::memory::Kept;
 use crate::memory::judge;
 use answers::range::first_outside;
@@ -17,16 +18,16 @@ use block_sides::run::run;
 use frames::count::frames_in;
 use frames::count::whole_frames;
 
-// What a block answers: how many frames were written, or why it was refused.
+// What a block answers: how many frames were written, or why it was refused; a sample by its place in the input.
 pub enum Blocked {
     Written(usize),
-    Memory,
+    Memory(Fault),
     GainCount,
     Gain,
     OutputLength,
     PartFrame,
     TooLong,
-    Sample,
+    Sample(usize),
 }
 
 // The samples through the lines from the position on, and the position afterwards. Everything has been judged.
@@ -84,8 +85,9 @@ fn block_of(
     if BLOCK_LIMIT < frames {
         return Blocked::TooLong;
     }
-    if first_outside(LEAST_SAMPLE, MOST_SAMPLE, input) < input.len() {
-        return Blocked::Sample;
+    let bad = first_outside(LEAST_SAMPLE, MOST_SAMPLE, input);
+    if bad < input.len() {
+        return Blocked::Sample(bad);
     }
     equalise(memory, gains, input, output, bands, channels);
     Blocked::Written(frames)
@@ -95,8 +97,8 @@ fn block_of(
 pub fn block(memory: &mut [i32], gains: &[i32], input: &[i32], output: &mut [i32]) -> Blocked
     ensures { λ r. ⌜ Done (blockOf (now (memory .entry)) (now (gains .entry)) (now (input .entry)) (now (output .entry))) r (now (memory .exit), now (output .exit)) ⌝ }
 {
-    let Kept::Holds(bands, channels) = judge(memory) else {
-        return Blocked::Memory;
-    };
-    block_of(memory, gains, input, output, bands, channels)
+    match judge(memory) {
+        Kept::Holds(bands, channels) => block_of(memory, gains, input, output, bands, channels),
+        Kept::Wrong(fault) => Blocked::Memory(fault),
+    }
 }

@@ -30,12 +30,17 @@ pub enum Prepared {
     MemoryLength,
 }
 
-// What a lent memory is: that of so many bands and channels, or what is wrong with it.
-pub enum Kept {
-    Holds(usize, usize),
+// What is wrong with a lent memory.
+pub enum Fault {
     CountWrong,
     LengthWrong,
     PositionOutside,
+}
+
+// What a lent memory is: that of so many bands and channels, or what is wrong with it.
+pub enum Kept {
+    Holds(usize, usize),
+    Wrong(Fault),
 }
 
 // The memory length for the counts, so that a caller can lend the right number of places.
@@ -77,14 +82,14 @@ fn judge_places(memory: &[i32], bands: usize, channels: usize) -> Kept
     ensures { λ r. ⌜ r ≡ keptOf (now (memory .entry)) ⌝ }
 {
     if memory.len() != whole_length(bands, channels) {
-        return Kept::LengthWrong;
+        return Kept::Wrong(Fault::LengthWrong);
     }
     let at = memory[POSITION];
     if at < 0 {
-        return Kept::PositionOutside;
+        return Kept::Wrong(Fault::PositionOutside);
     }
     if line_length(bands) <= at as usize {
-        return Kept::PositionOutside;
+        return Kept::Wrong(Fault::PositionOutside);
     }
     Kept::Holds(bands, channels)
 }
@@ -94,15 +99,15 @@ pub fn judge(memory: &[i32]) -> Kept
     ensures { λ r. ⌜ r ≡ keptOf (now (memory .entry)) ⌝ }
 {
     if memory.len() < POSITION {
-        return Kept::CountWrong;
+        return Kept::Wrong(Fault::CountWrong);
     }
     let bands = memory[COUNT];
     if !within(FEWEST_BANDS, MOST_BANDS, bands) {
-        return Kept::CountWrong;
+        return Kept::Wrong(Fault::CountWrong);
     }
     let channels = memory[CHANNELS];
     if !within(FEWEST_CHANNELS, MOST_CHANNELS, channels) {
-        return Kept::CountWrong;
+        return Kept::Wrong(Fault::CountWrong);
     }
     judge_places(memory, bands as usize, channels as usize)
 }

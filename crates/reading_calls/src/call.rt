@@ -49,6 +49,7 @@ pub fn prepared(memory: &mut [i32], kept: &[i32]) {
 }
 
 // Block, and on the line before it what is lent: the memory's length, its counts and its position, the gains, the input and the output's length.
+// Behind the answer stands the place of its refusal, 0 where it has none.
 fn block_in(
     memory: &mut [i32],
     gains: &[i32],
@@ -65,7 +66,10 @@ fn block_in(
     list(input);
     count(output.len());
     line();
-    told(answer(block_parts(block(memory, gains, input, output))));
+    let parts = block_parts(block(memory, gains, input, output));
+    let place = parts.1;
+    told(answer(parts));
+    count(place);
     compared(memory, kept);
     compared(output, marked);
     line();

@@ -1,15 +1,12 @@
 -- `block::block` meets its contract: a memory that is not accepted is refused before anything else. Assumes nothing.
+use mathlib.Core.Path.{ap}
 use borrow.Author.Needs.{needs}
 use denote.Ref.{now}
-use Rattle.answers.proofs.Laws.{refuses-here}
+use Rattle.answers.proofs.Laws.{refuses}
+use Rattle.octave.specs.declared.block.Blocked.the-variants.{Memory}
 use Rattle.octave.proofs.Memories.{kept-wrong, kept-right, kept-bands, kept-channels}
 use Rattle.octave.proofs.block.block.Statement.{statement}
 use Rattle.octave.proofs.block.block.Tie as tie
-
-returns : tie.Need-returns
-returns c =
-    let wrong = kept-wrong (now (c .before .before .before .args .memory)) (c .before .judge .result) (c .before .judge .ensures) (c .match .keys2) in
-    search refuses-here depth 12
 
 block-of-requires : tie.Need-block-of-requires
 block-of-requires c κs =
@@ -25,15 +22,26 @@ block-of-requires c κs =
       channels-are = kept-channels m (judge .result) (judge .ensures) bands channels is;
     }
 
+returns-2 : tie.Need-returns-2
+returns-2 c =
+    let s = c .before .before .before .before .before in
+    let judge = c .before .before .before .judge in
+    let fault = c .before .fault .given in
+    let wrong = kept-wrong (now (s .args .memory)) (judge .result) (judge .ensures) (fault .0 .0) (fault .1) in
+    let told = wrong .0 in
+    let is = ap Memory (wrong .1) in
+    search refuses depth 12
+
 pub block-spec : {M : Type 1} → statement M
 block-spec =
     tie.close
     (tie.spec
     (λ c κs. search needs)
     (λ c. search needs)
-    (λ c. search needs)
-    returns
     block-of-requires
     (λ c. search needs)
     (λ c. search needs)
-    (λ c. search needs))
+    (λ c. search needs)
+    (λ c. search needs)
+    (λ c. search needs)
+    returns-2)

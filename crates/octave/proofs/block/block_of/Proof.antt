@@ -10,9 +10,10 @@ use lib.IntN.{pos}
 use lib.ListN.{length}
 use denote.Ref.{now}
 use Rattle.answers.specs.Range.{firstOutside}
-use Rattle.answers.specs.Unit.{largestGain, blockLimit}
-use Rattle.answers.proofs.Branches.{judging, found-none}
-use Rattle.octave.specs.declared.block.Blocked.the-variants.{Written}
+use Rattle.answers.specs.Unit.{leastSample, mostSample, largestGain, blockLimit}
+use Rattle.answers.proofs.Laws.{refuses-last, goes-on}
+use Rattle.answers.proofs.Branches.{branches, judging, found-none}
+use Rattle.octave.specs.declared.block.Blocked.the-variants.{Written, Sample}
 use Rattle.octave.specs.Memory.{channelsIn}
 use Rattle.octave.specs.Block.{framesOf}
 use Rattle.octave.proofs.Memories.{accepted-is, channels-few}
@@ -56,11 +57,16 @@ returns-5 c =
     lt-leb (framesOf (now (c .before .before .before .before .before .before .before .before .args .memory)) (now (c .before .before .before .before .before .before .before .before .args .input))) blockLimit (omega (arith, frames-are (c .before), c .if5 .taken)) in
     search judging depth 12
 
+-- the first bad sample's place
+place-is : (c : tie.Then6) → c .before .first-outside2 .result ≡ firstOutside leastSample mostSample (now (c .before .before .before .before .before .before .before .before .before .before .args .input))
+place-is c = c .before .first-outside2 .ensures
+
 returns-6 : tie.Need-returns-6
 returns-6 c =
     let w = whole (c .before .before .before .before) in
     let l = short (c .before .before) in
-    search judging depth 12
+    let is = ap Sample (place-is c) in
+    search (refuses-last, goes-on, branches) depth 12
 
 -- what the samples' run asks, from the checks that held; g is where the gains were judged
 equalise-requires : tie.Need-equalise-requires

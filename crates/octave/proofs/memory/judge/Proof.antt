@@ -12,11 +12,12 @@ use mir.Syntax.{w32}
 use mir.Val.{SFits}
 use mir.Facts.{toZ-ofZ}
 use Rattle.answers.specs.Unit.{fewestBands, mostBands, fewestChannels, mostChannels}
-use Rattle.answers.proofs.Laws.{chosen-here, chosen-on}
+use Rattle.answers.specs.Judging.{here, later}
 use Rattle.answers.proofs.Branches.{within-is}
+use Rattle.octave.specs.declared.memory.Fault.the-variants.{CountWrong}
 use Rattle.octave.specs.Memory.{countAllowed, channelsAllowed}
 use Rattle.octave.proofs.Ranges.{bands-of, channels-of}
-use Rattle.octave.proofs.Memories.{too-short}
+use Rattle.octave.proofs.Memories.{wrong-is, too-short}
 use Rattle.octave.proofs.memory.judge.Statement.{statement}
 use Rattle.octave.proofs.memory.judge.Tie as tie
 
@@ -45,14 +46,14 @@ channels-allowed c =
 -- ---- the needs
 
 returns : tie.Need-returns
-returns c = too-short (now (c .before .args .memory)) (c .if1 .taken)
+returns c = let m = now (c .before .args .memory) in wrong-is m CountWrong (too-short m (c .if1 .taken))
 
 returns-2 : tie.Need-returns-2
 returns-2 c =
     let m = now (c .before .before .before .before .args .memory) in
     let e : countAllowed (getD m 0 (pos 0)) ≡ false =
     within-is fewestBands mostBands {z = getD m 0 (pos 0)} (sfits-of (c .before .before .bands .given)) (c .before .within .ensures) (not-true (c .before .within .result) (c .if2 .taken)) in
-    search chosen-here depth 12
+    wrong-is m CountWrong (here e)
 
 returns-3 : tie.Need-returns-3
 unfolding the
@@ -61,7 +62,7 @@ returns-3 c =
     let a = bands-allowed (c .before .before .before) in
     let e : channelsAllowed (getD m 1 (pos 0)) ≡ false =
     within-is fewestChannels mostChannels {z = getD m 1 (pos 0)} (sfits-of (c .before .before .channels .given)) (c .before .within2 .ensures) (not-true (c .before .within2 .result) (c .if3 .taken)) in
-    search (chosen-here, chosen-on) depth 12
+    wrong-is m CountWrong (later a (here e))
 
 cast-bands : tie.Need-cast-judge-places
 unfolding the

@@ -4,7 +4,8 @@ use mathlib.Core.Bool.{true, false}
 use Prim.Native.Nat.{ℕ, _≤_}
 use native.Mathlib.Omega.{arith}
 use borrow.Author.Needs.{sfits-of}
-use borrow.Author.Tests.{lt-ltb, le-ltb}
+use borrow.Author.Tests.{le-ltb, eq-eqb}
+use lib.Dec.{eqb}
 use lib.ListN.{length}
 use lib.IntN.{pos, natAbs}
 use lib.Signed.{ltZ}
@@ -12,12 +13,13 @@ use denote.Ref.{now}
 use mir.Syntax.{w32}
 use mir.Val.{SFits}
 use mir.Facts.{toZ-ofZ, fits-natAbs}
-use Rattle.answers.proofs.Laws.{chosen-here, chosen-on, chosen-last}
-use Rattle.answers.proofs.Branches.{branches}
+use Rattle.answers.specs.Judging.{here, later}
+use Rattle.answers.proofs.Branches.{other}
+use Rattle.octave.specs.declared.memory.Fault.the-variants.{LengthWrong, PositionOutside}
 use Rattle.octave.specs.declared.memory.Kept.the-variants.{Holds}
 use Rattle.octave.specs.Memory.{lineLength, memoryLength, bandsIn, channelsIn, heldIn, positionWithin}
 use Rattle.octave.proofs.Ranges.{bands-of, channels-of}
-use Rattle.octave.proofs.Memories.{not-negative}
+use Rattle.octave.proofs.Memories.{not-negative, accepts-is, wrong-is, right-is}
 use Rattle.octave.proofs.memory.judge_places.Statement.{statement}
 use Rattle.octave.proofs.memory.judge_places.Tie as tie
 
@@ -39,6 +41,9 @@ length-is c = let s = c .before in c .whole-length .ensures ∙ ap₂ (λ (b n :
 right : (c : tie.Else1) → let m = now (c .before .before .args .memory) in length m ≡ memoryLength (bandsIn m) (channelsIn m)
 right c = c .if1 .left ∙ length-is (c .before)
 
+long : (c : tie.Else1) → let m = now (c .before .before .args .memory) in eqb (length m) (memoryLength (bandsIn m) (channelsIn m)) ≡ true
+long c = let m = now (c .before .before .args .memory) in eq-eqb (length m) (memoryLength (bandsIn m) (channelsIn m)) (right c)
+
 at-fits : (c : tie.After-at) → SFits w32 (heldIn (now (c .before .before .before .args .memory)) .position)
 at-fits c = sfits-of (c .at .given)
 
@@ -55,8 +60,9 @@ returns c =
     let s = c .before .before in
     let b = s .pre .bands-allowed in
     let n = s .pre .channels-allowed in
-    let l = length-is (c .before) in
-    search (chosen-here, chosen-on, branches) depth 12
+    let m = now (s .args .memory) in
+    let l : eqb (length m) (memoryLength (bandsIn m) (channelsIn m)) ≡ false = other (length m) (memoryLength (bandsIn m) (channelsIn m)) (c .before .whole-length .result) (length-is (c .before)) (c .if1 .taken) in
+    wrong-is m LengthWrong (later b (later n (here l)))
 
 returns-2 : tie.Need-returns-2
 returns-2 c =
@@ -65,8 +71,7 @@ returns-2 c =
     let outside : positionWithin (lineLength (bandsIn m)) (heldIn m .position) ≡ false = rw (rw (toZ-ofZ (at-fits (c .before))) at (c .if2 .taken)) in
     let b = s .pre .bands-allowed in
     let n = s .pre .channels-allowed in
-    let l = right (c .before .before) in
-    search (chosen-here, chosen-on, branches) depth 12
+    wrong-is m PositionOutside (later b (later n (later (long (c .before .before)) (here outside))))
 
 cast-if3 : tie.Need-cast-if3
 cast-if3 c =
@@ -82,21 +87,15 @@ returns-3 c =
     rw (not-below (c .before .before), le-ltb (natAbs (heldIn m .position)) (lineLength (bandsIn m)) past) in
     let b = s .pre .bands-allowed in
     let n = s .pre .channels-allowed in
-    let l = right (c .before .before .before .before) in
-    search (chosen-here, chosen-on, branches) depth 12
+    wrong-is m PositionOutside (later b (later n (later (long (c .before .before .before .before)) (here outside))))
 
 returns-4 : tie.Need-returns-4
 returns-4 c =
     let s = c .before .before .before .before .before .before in
     let m = now (s .args .memory) in
     let inside = rw (toZ-ofZ (at-fits (c .before .before .before)), size-is (c .before)) at (c .if3 .left) in
-    let within : positionWithin (lineLength (bandsIn m)) (heldIn m .position) ≡ true =
-    rw (not-below (c .before .before), lt-ltb (natAbs (heldIn m .position)) (lineLength (bandsIn m)) inside) in
-    let b = s .pre .bands-allowed in
-    let n = s .pre .channels-allowed in
-    let l = right (c .before .before .before .before) in
-    let is = ap₂ (λ (u v : ℕ). Holds u v) (s .pre .bands-are) (s .pre .channels-are) in
-    search (chosen-on, chosen-last, branches) depth 12
+    ap₂ (λ (u v : ℕ). Holds u v) (s .pre .bands-are) (s .pre .channels-are) ∙
+    right-is m (accepts-is m (s .pre .bands-allowed) (s .pre .channels-allowed) (right (c .before .before .before .before)) (not-below (c .before .before)) inside)
 
 pub judge-places-spec : {M : Type 1} → statement M
 judge-places-spec =

@@ -1,0 +1,78 @@
+-- The block call's refusals: each has a number, and 8 has the place of the first bad sample. Assumes nothing.
+use mathlib.Core.Path.{_≡_, refl, sym, ap, subst, _∙_}
+use mathlib.Core.Bool.{true, false, false≢true}
+use mathlib.Core.List.{List}
+use Prim.Native.Nat.{ℕ, _*_, _%_, _≤_, _<_}
+use native.Mathlib.Nat.{mul-le-mul-right}
+use native.Mathlib.Omega.{arith}
+use borrow.Author.Tests.{eqb-true, leb-true, lt-ltb}
+use lib.Dec.{eqb, leb}
+use lib.ListN.{length}
+use lib.IntN.{ℤ}
+use Rattle.answers.specs.Answer.{Answer, refused, numberIn, placeIn}
+use Rattle.answers.specs.Checks.{allHold}
+use Rattle.answers.specs.Judging.{allRefuse}
+use Rattle.answers.specs.Range.{firstOutside, FirstAt, allWithin}
+use Rattle.answers.specs.Unit.{leastSample, mostSample, blockLimit}
+use Rattle.answers.proofs.Laws.{decided, every, eaching, unnumbered-holds}
+use Rattle.answers.proofs.Ranges.{first-at}
+use Rattle.frames.proofs.Laws.{whole-frames}
+use Rattle.octave.specs.declared.block.Blocked.{Blocked}
+use Rattle.octave.specs.declared.block.Blocked.the-variants.{Written, Memory, Sample}
+use Rattle.octave.specs.declared.memory.Fault.{Fault}
+use Rattle.octave.specs.declared.memory.Fault.the-variants.{CountWrong, LengthWrong, PositionOutside}
+use Rattle.octave.specs.Answer.{faultNumber, blockAnswer}
+use Rattle.octave.specs.Memory.{bandsIn, channelsIn, accepts, faultOf}
+use Rattle.octave.specs.Block.{framesOf, blockChecks, equalised, blockOf}
+use Rattle.octave.proofs.Memories.{accepted-is, channels-few}
+
+pub fault-number : (f : Fault) → (31 ≤ faultNumber f) × (faultNumber f ≤ 33)
+fault-number CountWrong = (omega arith, omega arith)
+fault-number LengthWrong = (omega arith, omega arith)
+fault-number PositionOutside = (omega arith, omega arith)
+
+block-refuses : (memory gains input output : List ℤ) → allRefuse blockAnswer (blockChecks memory gains input output) ≡ true
+unfolding allRefuse
+block-refuses memory gains input output =
+    let f = faultOf memory in
+    rw (lt-ltb 0 (faultNumber f) (omega (arith, fault-number f)))
+
+-- an answer without a number: every check held
+pub block-held : (memory gains input output : List ℤ) → numberIn (blockAnswer (blockOf memory gains input output .result)) ≡ 0 → allHold (blockChecks memory gains input output) ≡ true
+block-held memory gains input output e =
+    let cs = blockChecks memory gains input output in
+    let r = Written (framesOf memory input) in
+    unnumbered-holds blockAnswer cs r (block-refuses memory gains input output)
+    (sym (ap (λ (q : Blocked). numberIn (blockAnswer q)) (decided (memory, output) (equalised memory gains input) r cs)) ∙ e)
+
+-- ---- 8
+
+abbrev Told : List ℤ → ℕ → Blocked → Type 0
+Told input i r = blockAnswer r ≡ refused 8 i → FirstAt leastSample mostSample input i
+
+module _ (input : List ℤ) (i : ℕ) where
+  not-fault : (f : Fault) → Told input i (Memory f)
+  not-fault f e = absurd (omega (arith, fault-number f, ap numberIn e))
+
+  not-eight : (r : Blocked) → eqb (numberIn (blockAnswer r)) 8 ≡ false → Told input i r
+  not-eight r n e = absurd (false≢true (sym n ∙ ap (λ (a : Answer ℕ). eqb (numberIn a) 8) e))
+
+  eight : allWithin leastSample mostSample input ≡ false → Told input i (Sample (firstOutside leastSample mostSample input))
+  eight t e = subst (FirstAt leastSample mostSample input) (ap placeIn e) (first-at leastSample mostSample input t)
+
+-- refused 8 with a place: at that place there is a bad sample, before it none
+pub first-bad : (memory gains input output : List ℤ) (i : ℕ) → blockAnswer (blockOf memory gains input output .result) ≡ refused 8 i → FirstAt leastSample mostSample input i
+first-bad memory gains input output i =
+    every (memory, output) (equalised memory gains input) (Written (framesOf memory input)) (Told input i) (blockChecks memory gains input output)
+    (search (eaching, not-fault, not-eight, eight) depth 20)
+
+-- the place of a bad sample in a block that is not too long
+pub bad-place : (memory input : List ℤ) → accepts memory ≡ true → eqb (length input % channelsIn memory) 0 ≡ true → leb (framesOf memory input) blockLimit ≡ true →
+    allWithin leastSample mostSample input ≡ false → firstOutside leastSample mostSample input < 2 * blockLimit
+bad-place memory input a w f b =
+    let c = channelsIn memory in
+    let n = framesOf memory input in
+    let few : c ≤ 2 = channels-few (accepted-is memory (bandsIn memory) c a refl refl) .1 in
+    let long : length input ≡ c * n = whole-frames (length input) c (eqb-true (length input % c) 0 w) refl in
+    let most : c * n ≤ 2 * n = mul-le-mul-right {m = c} {n = 2} n few in
+    omega (arith, long, most, leb-true n blockLimit f, first-at leastSample mostSample input b .among)
