@@ -12,7 +12,7 @@ static int refused(const char *call, int64_t answer)
 {
     if (!oeq_is_refusal(answer))
         return 0;
-    fprintf(stderr, "%s: refused %d\n", call, oeq_refusal_number(answer));
+    fprintf(stderr, "%s: refused %d, place %lld\n", call, oeq_refusal_number(answer), (long long)oeq_refusal_place(answer));
     return 1;
 }
 
@@ -57,5 +57,11 @@ int main(void)
     gains[3] = OEQ_GAIN_MOST + 1;
     answer = oeq_block(memory, OEQ_MEMORY_LENGTH(BANDS, CHANNELS), gains, BANDS, input, SAMPLES, output, SAMPLES);
     printf("gain %d: refused %d\n", gains[3], oeq_refusal_number(answer));
+
+    /* A bad sample is told by its place: here the right one of frame 20. */
+    gains[3] = OEQ_GAIN_UNITY;
+    input[CHANNELS * 20 + 1] = OEQ_SAMPLE_MOST + 1;
+    answer = oeq_block(memory, OEQ_MEMORY_LENGTH(BANDS, CHANNELS), gains, BANDS, input, SAMPLES, output, SAMPLES);
+    printf("sample %d: refused %d, place %lld\n", OEQ_SAMPLE_MOST + 1, oeq_refusal_number(answer), (long long)oeq_refusal_place(answer));
     return 0;
 }

@@ -14,7 +14,8 @@
  *
  * ANSWERS
  *   Every call returns an int64_t. An accepted call returns its answer, which is never below -8,388,608. A refusal is
- *   INT64_MIN + number + 256 * place; the helpers below take it apart. The place is 0 today. The two never meet.
+ *   INT64_MIN + number + 256 * place; the helpers below take it apart. The place is 0 but for refusal 8. The two never
+ *   meet.
  *   A refused call has changed nothing that was lent to it. Where several faults are there, the number is that of the
  *   first in the order in which a call lists its refusals.
  *
@@ -53,12 +54,11 @@ enum {
 enum {
     OEQ_BAND_COUNT = 1,      /* band count not 2..10 */
     OEQ_MEMORY_SIZE = 2,     /* memory length not that of these counts */
-    OEQ_MEMORY = 3,          /* memory not accepted: one of its counts, its length or its position is wrong */
     OEQ_GAIN_COUNT = 4,      /* number of gains is not the band count */
     OEQ_GAIN = 5,            /* a gain not 0..16,384 */
     OEQ_OUTPUT_LENGTH = 6,   /* output length differs from input length, or it is not whole frames */
     OEQ_TOO_LONG = 7,        /* over 4,096 frames */
-    OEQ_SAMPLE = 8,          /* a sample out of range, on either side */
+    OEQ_SAMPLE = 8,          /* a sample out of range, on either side; its place is the first one's index in the input */
     OEQ_CHANNEL_COUNT = 9,   /* channel count not 1 or 2 */
     OEQ_DECIBELS = 11,       /* no whole number of half decibels from -12 to 12 dB, or no number */
     OEQ_FACTOR = 12,         /* factor not 0 to 4, or no number */
@@ -71,7 +71,10 @@ enum {
     OEQ_PART_SAMPLE = 25,    /* `data` length is not a multiple of the block size: not whole frames */
     OEQ_WRITE_LENGTH = 26,   /* length not a multiple of 3 * channels, or above 4,294,967,259 */
     OEQ_WRITE_BUFFER = 27,   /* buffer not 44 bytes */
-    OEQ_WRITE_RATE = 28      /* rate neither 44,100 nor 48,000 */
+    OEQ_WRITE_RATE = 28,     /* rate neither 44,100 nor 48,000 */
+    OEQ_KEPT_COUNTS = 31,    /* memory too short to hold its counts, or one of them not allowed */
+    OEQ_KEPT_LENGTH = 32,    /* memory length not that of the counts it holds */
+    OEQ_KEPT_POSITION = 33   /* the memory's position is outside its line */
 };
 
 /* Whether an answer is a refusal. */
@@ -86,7 +89,7 @@ static inline int oeq_refusal_number(int64_t answer)
     return oeq_is_refusal(answer) ? (int)((answer - INT64_MIN) % 256) : 0;
 }
 
-/* The place of a refusal; 0 for an accepted answer. */
+/* The place of a refusal; 0 for one that has none, and for an accepted answer. */
 static inline int64_t oeq_refusal_place(int64_t answer)
 {
     return oeq_is_refusal(answer) ? (answer - INT64_MIN) / 256 : 0;
@@ -123,8 +126,8 @@ int64_t oeq_prepare(int32_t bands, int32_t channels, int32_t *memory, size_t mem
  *
  *   memory   from oeq_prepare, then only changed by oeq_block. It holds the bands, the channels and the position, then
  *            the lines of the left, then those of the right. The line places may hold any numbers; it is accepted
- *            exactly when memory[0] is 2..10, memory[1] is 1 or 2, the length is that of these counts, and memory[2] is a
- *            place of a line, 0 to 9 * 2^(bands - 1) - 1.
+ *            exactly when memory[0] is 2..10 and memory[1] is 1 or 2 (else 31), the length is that of these counts (32),
+ *            and memory[2] is a place of a line, 0 to 9 * 2^(bands - 1) - 1 (33).
  *   gains    one for each band, 0 to 16,384, for every frame of this block; they may differ from call to call
  *   input    0 to 4,096 whole frames, each of memory[1] samples; input_length counts samples
  *   output   as long as input; not the same places
@@ -136,9 +139,11 @@ int64_t oeq_prepare(int32_t bands, int32_t channels, int32_t *memory, size_t mem
  * range, and a loud sample never turns over. Scale nothing.
  *
  * Returns the number of frames written, input_length / channels.
- * Refuses: 3 memory not accepted; 4 number of gains is not the band count; 5 a gain not 0..16,384; 6 output length
- * differs from input, or it is not whole frames; 7 over 4,096 frames; 8 a sample out of range, on either side: the block
- * is refused for both.
+ * Refuses: 31 memory too short to hold its counts, or a count not allowed; 32 memory length not theirs; 33 position
+ * outside its line; 4 number of gains is not the band count; 5 a gain not 0..16,384; 6 output length differs from input,
+ * or it is not whole frames; 7 over 4,096 frames; 8 a sample out of range, on either side: the block is refused for both,
+ * and oeq_refusal_place tells the first such sample's index in input, 0 to 8,191. Of two channels index / 2 is its frame,
+ * and index % 2 is 0 for the left.
  */
 int64_t oeq_block(int32_t *memory, size_t memory_length, const int32_t *gains, size_t gains_length,
                   const int32_t *input, size_t input_length, int32_t *output, size_t output_length);

@@ -6,7 +6,7 @@ from itertools import cycle, groupby
 from operator import mul, ne
 
 from model.tree import LEAST, MOST, block, check_bench, check_sides, memory_length, prepare, prepared, ring_length
-from words import told
+from words import placed, told
 
 MARK = 9999999
 
@@ -104,7 +104,7 @@ def show_lent(*lengths):
     line("block", len(memory), *listed(memory[:3]), *listed(gains), *listed(samples), len(output))
     answer = block(memory, gains, samples, output)
     lists[MEMORY][: len(memory)], lists[OUTPUT][: len(output)] = memory, output
-    line("", *told(answer), *compared(before[0], memory), *compared(before[3], output))
+    line("", *placed(answer), *compared(before[0], memory), *compared(before[3], output))
 
 
 def show_block(memory, gains, samples, places):
@@ -141,11 +141,9 @@ def with_place(channels, at, value):
     return memory
 
 
-def with_sample(channels, at, value):
-    """Two frames with one sample changed."""
-    samples = list(PAIR[channels])
-    samples[at] = value
-    return samples
+def with_sample(samples, at, value):
+    """The same samples but for one."""
+    return [*samples[:at], value, *samples[at + 1 :]]
 
 
 ENDS = [-(2**31), 2**31 - 1]
@@ -168,7 +166,7 @@ def show_counts():
 
 
 def show_numbers(channels):
-    """Refusals 3 to 8 at their edges, and an empty block."""
+    """Refusals 31 to 33 and 4 to 8 at their edges, and an empty block."""
     pair = PAIR[channels]
     for place, values in enumerate([BANDS, CHANNELS, [*ENDS, -1, 0, 17, 18, 35, 36]]):
         for value in values:
@@ -185,7 +183,20 @@ def show_numbers(channels):
         show_block(used(channels), BOTH, [5] * new, new)
     for at in range(len(pair)):
         for sample in [*ENDS, LEAST - 1, LEAST, MOST, MOST + 1]:
-            show_block(used(channels), BOTH, with_sample(channels, at, sample), len(pair))
+            show_block(used(channels), BOTH, with_sample(pair, at, sample), len(pair))
+
+
+def show_places(channels):
+    """Refusal 8 with its place: the first bad sample at every place, a second one behind it, and the last of the longest block."""
+    good = BEFORE[channels]
+    for first in range(len(good)):
+        one = with_sample(good, first, MOST + 1)
+        show_block(used(channels), BOTH, one, len(good))
+        for second in range(first + 1, len(good)):
+            show_block(used(channels), BOTH, with_sample(one, second, LEAST - 1), len(good))
+    longest = [5] * (4096 * channels)
+    for at in (0, len(longest) // 2, len(longest) - 1):
+        show_block(used(channels), BOTH, with_sample(longest, at, MOST + 1), len(longest))
 
 
 LENGTHS = {
@@ -195,7 +206,7 @@ LENGTHS = {
 
 
 def show_lengths(channels):
-    """Refusals 1, 2 and 3: lengths with band counts near theirs."""
+    """Refusals 1, 2, 31 and 32: lengths with band counts near theirs."""
     for places in LENGTHS[channels]:
         bands = [1, 2, 3, 11] if places < 1000 else [8, 9, 10, 11]
         for M in bands:
@@ -205,9 +216,27 @@ def show_lengths(channels):
 
 
 def show_other_channels():
-    """Refusal 3: three channels in memory as long as the formula would have them, and none."""
+    """Refusal 31: three channels in memory as long as the formula would have them, and none."""
     show_block([2, 3] + [0] * 55, BOTH, [5] * 6, 6)
     show_block([2, 0, 0], BOTH, [], 0)
+
+
+def show_memory_faults(channels):
+    """Any faults of the memory together: 31, then 32, then 33; and memory that ends within its head."""
+    for faults in range(16):
+        memory = used(channels)
+        if faults & 1:
+            memory[0] = 11
+        if faults & 2:
+            memory[1] = 0
+        if faults & 4:
+            memory.append(0)
+        if faults & 8:
+            memory[2] = -1
+        show_block(memory, BOTH, PAIR[channels], len(PAIR[channels]))
+    for places in range(4):
+        for head in ([2, channels, 0], [2, channels, 18], [2, 3, 0], [1, channels, 0]):
+            show_block(head[:places], BOTH, PAIR[channels], len(PAIR[channels]))
 
 
 def show_faults():
@@ -298,7 +327,9 @@ if __name__ == "__main__":
     show_counts()
     for side in SIDES:
         show_numbers(side)
+        show_places(side)
         show_lengths(side)
+        show_memory_faults(side)
     show_other_channels()
     show_faults()
     for side in SIDES:

@@ -23,6 +23,11 @@ static inline uint32_t random_below(uint32_t below)
     return (uint32_t)((random_bits() >> 32) * below >> 32);
 }
 
+static inline int32_t one_of(const int32_t *list, uint32_t count)
+{
+    return list[random_below(count)];
+}
+
 #define CHECK(holds, ...)                                                             \
     do {                                                                              \
         if (!(holds)) {                                                               \
@@ -33,8 +38,11 @@ static inline uint32_t random_below(uint32_t below)
         }                                                                             \
     } while (0)
 
-#define IS_REFUSAL(answer, number)                                                    \
-    CHECK((answer) == INT64_MIN + (number), "answered %lld, not refused %d",          \
-          (long long)(answer), (int)(number))
+/* A refusal with its place, and one that has none. */
+#define IS_REFUSAL_AT(answer, number, place)                                          \
+    CHECK((answer) == INT64_MIN + (number) + 256 * (int64_t)(place),                  \
+          "answered %lld, not refused %d at %lld", (long long)(answer), (int)(number), (long long)(place))
+
+#define IS_REFUSAL(answer, number) IS_REFUSAL_AT(answer, number, 0)
 
 #endif

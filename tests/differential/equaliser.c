@@ -25,8 +25,8 @@ static void refused_between(struct places memory, const int32_t *gains, size_t b
 {
     size_t at = random_below((uint32_t)output.length);
     int32_t sample = input[at];
-    input[at] = random_bits() & 1 ? OEQ_SAMPLE_MOST + 1 : OEQ_SAMPLE_LEAST - 1;
-    IS_REFUSAL(oeq_block(memory.lent, memory.length, gains, bands, input, output.length, output.lent, output.length), 8);
+    input[at] = wrong_sample();
+    IS_REFUSAL_AT(oeq_block(memory.lent, memory.length, gains, bands, input, output.length, output.lent, output.length), 8, at);
     CHECK(places_same(memory) && places_same(output), "%zu bands, sample %zu", bands, at);
     input[at] = sample;
 }

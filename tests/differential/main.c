@@ -28,6 +28,7 @@ int main(int argc, char **argv)
     wild_memories(60 * more);
     sides(10 * more);
     block_refusals(20 * more);
+    bad_samples();
     gain_commands(8000000L * more);
     samples();
     headers(100000 * more);

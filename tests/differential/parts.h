@@ -7,6 +7,7 @@ void histories(int rounds);     /* long signals in random cuts, from prepared me
 void wild_memories(int rounds); /* any numbers in accepted memory */
 void sides(int rounds);         /* two channels beside one, and exchanged */
 void block_refusals(int rounds);
+void bad_samples(void);         /* one at every place of a block, and more behind it */
 void gain_commands(long patterns);
 void samples(void);
 void headers(int rounds);

@@ -5,14 +5,32 @@
 #include "parts.h"
 #include "signals.h"
 
-enum { FAULTS = 6, FIRST = 3 };
+enum { FAULTS = 6 };
 
-static int32_t one_of(const int32_t *list, uint32_t count)
+/* The number for a memory, by rule 5.4: its counts, its length, its position; 0 if it is accepted. */
+static int memory_fault(const int32_t *memory, size_t length)
 {
-    return list[random_below(count)];
+    if (length < 2 || memory[0] < 2 || memory[0] > 10 || memory[1] < 1 || memory[1] > 2)
+        return 31;
+    if (length != (size_t)length_of(memory[0], memory[1]))
+        return 32;
+    return memory[2] < 0 || memory[2] >= line_length(memory[0]) ? 33 : 0;
 }
 
-/* Makes what prepare made wrong: a count, the length or the position. */
+static int is_bad(int32_t sample)
+{
+    return sample < OEQ_SAMPLE_LEAST || sample > OEQ_SAMPLE_MOST;
+}
+
+static size_t first_bad(const int32_t *input)
+{
+    size_t i = 0;
+    while (!is_bad(input[i]))
+        i++;
+    return i;
+}
+
+/* Spoils what prepare made: a count, the length or the position. */
 static void spoil_memory(struct places *memory, int bands, int channels)
 {
     long size = line_length(bands);
@@ -26,7 +44,7 @@ static void spoil_memory(struct places *memory, int bands, int channels)
     case 4: memory->lent[2] = (int32_t)size; break;
     case 5: memory->lent[2] = random_bits() & 1 ? -1 : INT32_MIN; break;
     case 6: memory->lent[2] = (int32_t)size + (int32_t)random_below((uint32_t)size); break; /* a place of the lines, but of the next one */
-    case 7: memory->length -= 1; break;
+    case 7: memory->length -= memory->length > 0; break;
     case 8: memory->length += 1; break;
     case 9: memory->length = random_below(4); break; /* no room for the counts, or no more than that */
     default: memory->length = (size_t)(channels == 2 ? length_of(bands, 1) : length_of(bands, 1) - size); break;
@@ -39,12 +57,10 @@ static void spoil_gain(int32_t *gains, size_t length)
     gains[random_below((uint32_t)length)] = one_of(wrong, 4);
 }
 
-static const int32_t wrong_samples[] = {-8388609, 8388608, INT32_MIN, INT32_MAX};
-
 static void spoil_sample(int32_t *input, size_t length)
 {
     size_t place = random_bits() & 1 ? length - 1 : random_below((uint32_t)length);
-    input[place] = one_of(wrong_samples, 4);
+    input[place] = wrong_sample();
 }
 
 /* Makes the lengths of input and output wrong: they differ, or they are not whole frames, or both. */
@@ -57,7 +73,16 @@ static void spoil_lengths(int channels, size_t *input, size_t *output)
         *output += random_bits() & 1 ? (size_t)(1 + random_below(2)) : (size_t)-1;
 }
 
-/* A call with the faults of a set, bit 0 for refusal 3 up to bit 5 for refusal 8. */
+/* The earliest of a set of faults: bit 0 is the memory's, with its own number, and bits 1 to 5 are 4 to 8. */
+static int first_number(int set, int memory_number)
+{
+    int bit = 0;
+    while (!(set >> bit & 1))
+        bit++;
+    return bit == 0 ? memory_number : bit + 3;
+}
+
+/* A call with the faults of a set. */
 static void call_with(int bands, int channels, int set)
 {
     size_t frames = 1 + random_below(100), gain_count = (size_t)bands, length, output_length;
@@ -80,11 +105,12 @@ static void call_with(int bands, int channels, int set)
     for (size_t i = 0; i < length; i++)
         input.lent[i] = (int32_t)random_below(1u << 24) - (1 << 23);
     size_t whole = memory.length;
-    if (set & 1)
-        spoil_memory(&memory, bands, channels);
+    while (set & 1 && memory_fault(memory.lent, memory.length) == 0)
+        for (int ways = 1 + (int)random_below(3); ways > 0; ways--)
+            spoil_memory(&memory, bands, channels);
     if (set & 4)
         spoil_gain(gains.lent, gain_count);
-    if (set & 32)
+    for (int ways = set & 32 ? 1 + (int)random_below(3) : 0; ways > 0; ways--)
         spoil_sample(input.lent, length);
     size_t lent = memory.length;
     memory.length = whole;
@@ -98,13 +124,12 @@ static void call_with(int bands, int channels, int set)
         CHECK(answer == (int64_t)frames, "answered %lld", (long long)answer);
         CHECK(places_around_same(memory) && places_around_same(output), "%d bands, %d channels", bands, channels);
     } else {
-        int first = FIRST;
-        while (!(set >> (first - FIRST) & 1))
-            first++;
-        IS_REFUSAL(answer, first);
-        CHECK(oeq_is_refusal(answer) && oeq_refusal_number(answer) == first && oeq_refusal_place(answer) == 0,
+        int number = first_number(set, memory_fault(memory.lent, lent));
+        size_t place = number == 8 ? first_bad(input.lent) : 0;
+        IS_REFUSAL_AT(answer, number, place);
+        CHECK(oeq_is_refusal(answer) && oeq_refusal_number(answer) == number && oeq_refusal_place(answer) == (int64_t)place,
               "the header's helpers");
-        CHECK(places_same(memory) && places_same(output), "%d bands, %d channels, refused %d", bands, channels, first);
+        CHECK(places_same(memory) && places_same(output), "%d bands, %d channels, refused %d", bands, channels, number);
     }
     CHECK(places_same(gains) && places_same(input), "%d bands, %d channels", bands, channels);
     places_free(memory);
@@ -115,8 +140,8 @@ static void call_with(int bands, int channels, int set)
 
 static const int32_t unity[11] = {4096, 4096, 4096, 4096, 4096, 4096, 4096, 4096, 4096, 4096, 4096};
 
-/* A block of so many samples, one of them another, through a used memory of two bands: the refusal, or 0, and then nothing has changed. */
-static void block_of(int number, int channels, size_t length, size_t at, int32_t sample)
+/* A block of so many samples through a used memory of two bands: the refusal, or 0, and then nothing has changed. */
+static void block_of(int number, int channels, size_t length)
 {
     struct places memory = places_new((size_t)length_of(2, channels));
     struct places input = places_new(length), output = places_new(length);
@@ -124,7 +149,7 @@ static void block_of(int number, int channels, size_t length, size_t at, int32_t
     oeq_prepare(2, channels, memory.lent, memory.length);
     CHECK(oeq_block(memory.lent, memory.length, unity, 2, before, 6, after, 6) == 6 / channels, "%d channels", channels);
     for (size_t i = 0; i < length; i++)
-        input.lent[i] = i == at ? sample : (int32_t)i;
+        input.lent[i] = (int32_t)i;
     places_mark(memory);
     places_mark(output);
     int64_t answer = oeq_block(memory.lent, memory.length, unity, 2, input.lent, length, output.lent, length);
@@ -144,23 +169,9 @@ static void block_lengths(void)
 {
     for (size_t start = 0; start <= 8192; start += 4096)
         for (size_t length = start < 6 ? start : start - 6; length <= start + 6; length++) {
-            block_of(length > 4096 ? 7 : 0, 1, length, 0, 0);
-            block_of(length % 2 ? 6 : length > 8192 ? 7 : 0, 2, length, 0, 0);
+            block_of(length > 4096 ? 7 : 0, 1, length);
+            block_of(length % 2 ? 6 : length > 8192 ? 7 : 0, 2, length);
         }
-}
-
-/* One sample of either side, in the first, a middle or the last frame. */
-static void bad_samples(void)
-{
-    static const size_t frames[] = {0, 1, 31, 32, 33, 2047, 4095};
-    for (size_t i = 0; i < sizeof frames / sizeof *frames; i++)
-        for (size_t side = 0; side < 2; side++)
-            for (size_t j = 0; j < 4; j++) {
-                block_of(8, 2, 8192, 2 * frames[i] + side, wrong_samples[j]);
-                block_of(0, 2, 8192, 2 * frames[i] + side, j % 2 ? OEQ_SAMPLE_MOST : OEQ_SAMPLE_LEAST);
-            }
-    block_of(8, 2, 2, 1, 8388608);
-    block_of(8, 1, 1, 0, -8388609);
 }
 
 /* Counts that are not allowed, in memory as long as the formula would give them, with as many gains. */
@@ -174,7 +185,7 @@ static void counts_with_their_length(void)
         memory.lent[0] = counts[i][0];
         memory.lent[1] = counts[i][1];
         places_mark(memory);
-        IS_REFUSAL(oeq_block(memory.lent, memory.length, unity, (size_t)counts[i][0], input, 12, output, 12), 3);
+        IS_REFUSAL(oeq_block(memory.lent, memory.length, unity, (size_t)counts[i][0], input, 12, output, 12), 31);
         CHECK(places_same(memory), "%d bands, %d channels", counts[i][0], counts[i][1]);
         places_free(memory);
     }
@@ -186,8 +197,7 @@ void block_refusals(int rounds)
         for (int bands = 2; bands <= 10; bands++)
             for (int set = 0; set < 1 << FAULTS; set++)
                 call_with(bands, 1 + (round + set + bands) % 2, set);
-    IS_REFUSAL(oeq_block(NULL, 0, NULL, 0, NULL, 0, NULL, 0), 3);
+    IS_REFUSAL(oeq_block(NULL, 0, NULL, 0, NULL, 0, NULL, 0), 31);
     block_lengths();
-    bad_samples();
     counts_with_their_length();
 }

@@ -36,6 +36,13 @@ static inline int32_t signal_at(int kind, long n)
     }
 }
 
+/* One that is out of range. */
+static inline int32_t wrong_sample(void)
+{
+    static const int32_t wrong[] = {OEQ_SAMPLE_LEAST - 1, OEQ_SAMPLE_MOST + 1, INT32_MIN, INT32_MAX};
+    return one_of(wrong, 4);
+}
+
 static inline int32_t random_gain(void)
 {
     switch (random_below(5)) {

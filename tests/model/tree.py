@@ -62,28 +62,30 @@ def prepare(M, channels, memory):
     return ("delay", delay(M))
 
 
-def accepted(memory):
-    """Whether a block call accepts the memory."""
-    if len(memory) < 2 or memory_length(*memory[:2]) != ("places", len(memory)):
-        return False
-    return 0 <= memory[2] < ring_length(memory[0])
+def fault(memory):
+    """What is wrong with a lent memory: 31 its counts, 32 its length, 33 its position; or None."""
+    length = memory_length(*memory[:2]) if len(memory) >= 2 else ("refused", 1)
+    if length[0] == "refused":
+        return 31
+    if len(memory) != length[1]:
+        return 32
+    return None if 0 <= memory[2] < ring_length(memory[0]) else 33
 
 
 def refusal(memory, gains, samples, output):
-    """The first of the refusals 3 to 8 that holds, or None."""
-    if not accepted(memory):
-        return 3
+    """The first of the refusals 31, 32, 33, 4 to 8 that holds and its place, or None."""
+    bad = [i for i, x in enumerate(samples) if not LEAST <= x <= MOST]
+    if fault(memory):
+        return (fault(memory), 0)
     if len(gains) != memory[0]:
-        return 4
+        return (4, 0)
     if not all(0 <= g <= 16384 for g in gains):
-        return 5
+        return (5, 0)
     if len(output) != len(samples) or len(samples) % memory[1]:
-        return 6
+        return (6, 0)
     if len(samples) > LONGEST * memory[1]:
-        return 7
-    if not all(LEAST <= x <= MOST for x in samples):
-        return 8
-    return None
+        return (7, 0)
+    return (8, min(bad)) if bad else None
 
 
 def below(line, L, past, new):
@@ -128,10 +130,10 @@ def one_side(M, at, rings, gains, samples):
 
 
 def block(memory, gains, samples, output):
-    """The number of frames written, or a refusal 3 to 8; memory and output are changed in place."""
-    number = refusal(memory, gains, samples, output)
-    if number:
-        return ("refused", number)
+    """The number of frames written, or a refusal and its place; memory and output are changed in place."""
+    refused = refusal(memory, gains, samples, output)
+    if refused:
+        return ("refused", *refused)
     M, channels, at = memory[:HEAD]
     for s in range(channels):
         start, end = HEAD + s * side_length(M), HEAD + (s + 1) * side_length(M)

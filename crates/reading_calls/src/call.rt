@@ -67,9 +67,9 @@ fn block_in(
     count(output.len());
     line();
     let parts = block_parts(block(memory, gains, input, output));
-    let place = parts.1;
+    let at = parts.1;
     told(answer(parts));
-    count(place);
+    count(at);
     compared(memory, kept);
     compared(output, marked);
     line();
