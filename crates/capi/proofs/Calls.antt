@@ -1,13 +1,17 @@
 -- What each call returns can be decoded: the header's helpers tell a C caller the library call's own answer, for all inputs.
 -- Assumes nothing.
-use mathlib.Core.Path.{_≡_}
+use mathlib.Core.Path.{_≡_, sym, ap, ap₂, _∙_}
 use mathlib.Core.List.{List}
 use Prim.Native.Nat.{ℕ}
+use native.Mathlib.Omega.{arith}
 use lib.IntN.{ℤ}
-use Rattle.answers.specs.Answer.{Answer}
+use Rattle.answers.specs.Answer.{Answer, accepted, refused, numberIn, placeIn}
+use Rattle.answers.specs.Range.{FirstAt}
+use Rattle.answers.specs.Unit.{leastSample, mostSample}
 use Rattle.octave.specs.Answer.{lengthAnswer, preparedAnswer, blockAnswer}
 use Rattle.octave.specs.Block.{blockOf}
 use Rattle.octave.specs.Memory.{memoryLengthOf, prepareOf}
+use Rattle.octave.proofs.Refusals.{first-bad}
 use Rattle.gain.specs.Answer.{answerOf}
 use Rattle.gain.specs.Promise.{commandGain}
 use Rattle.gain.specs.declared.Command.{Command}
@@ -41,6 +45,17 @@ prepare-decoded bands channels memory = count-decoded (preparedAnswer (prepareOf
 
 pub block-decoded : (memory gains input output : List ℤ) → Decoded (ofCount (blockAnswer (blockOf memory gains input output .result)))
 block-decoded memory gains input output = count-decoded (blockAnswer (blockOf memory gains input output .result)) (block-counted memory gains input output)
+
+-- a count's refusal is the call's own
+refused-count : (a : Answer ℕ) (i : ℕ) → ofCount a ≡ refused 8 i → a ≡ refused 8 i
+refused-count (accepted n) i e = absurd (omega (arith, ap numberIn e))
+refused-count (refused number place) i e = ap₂ (λ (n p : ℕ). refused n p) (ap numberIn e) (ap placeIn e)
+
+-- rule 12.4: 8 and a place decoded: at that place there is a bad sample, before it none
+pub place-told : (memory gains input output : List ℤ) (i : ℕ) → decode (encode (ofCount (blockAnswer (blockOf memory gains input output .result)))) ≡ refused 8 i →
+    FirstAt leastSample mostSample input i
+place-told memory gains input output i e =
+    first-bad memory gains input output i (refused-count (blockAnswer (blockOf memory gains input output .result)) i (sym (block-decoded memory gains input output) ∙ e))
 
 pub gain-decoded : (c : Command) → Decoded (answerOf (commandGain c))
 gain-decoded c = decoded (answerOf (commandGain c)) (gain-returnable c)

@@ -106,7 +106,7 @@ memoryChecks memory =
 abbrev pub accepts : List ℤ → Bool
 accepts memory = allHold (memoryChecks memory)
 
--- rule 5.4: what is wrong with a memory that is not accepted: the first check that fails, and if it is none before, then the last
+-- rule 5.4: what is wrong with a memory that is not accepted, by the first check that fails (of an accepted one nobody asks)
 abbrev pub faultOf : List ℤ → Fault
 faultOf memory = choose (memoryChecks memory) PositionOutside
 
