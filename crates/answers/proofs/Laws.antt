@@ -3,14 +3,14 @@
 use mathlib.Core.Path.{_≡_, refl, sym, ap, _∙_, subst}
 use mathlib.Core.Logic.{_⊎_, inl, inr}
 use mathlib.Core.Bool.{Bool, true, false, cond, _&&_, false≢true}
-use mathlib.Core.List.{List, [], _∷_}
+use mathlib.Core.List.{List, [], _∷_, _++_}
 use Prim.Native.Nat.{ℕ, _<_}
 use native.Mathlib.Omega.{arith}
 use borrow.Author.Tests.{ltb-true}
 use lib.Dec.{ltb, lit<}
 use Rattle.answers.specs.Answer.{Answer, accepted, numberIn}
-use Rattle.answers.specs.Checks.{Check, allHold, choose, Outcome, decide, Done}
-use Rattle.answers.specs.Judging.{First, here, later, Each, allRefuse}
+use Rattle.answers.specs.Checks.{Check, check, allHold, choose, Outcome, decide, Done}
+use Rattle.answers.specs.Judging.{First, here, later, Each, carried, allRefuse}
 
 pub and-left : (a b : Bool) → (a && b) ≡ true → a ≡ true
 and-left true b h = refl
@@ -116,6 +116,22 @@ all-or-first {R} (c ∷ cs) = by (c .holds) refl (all-or-first cs)
     by false e h = inr (c .otherwise, here e)
     by true e (inl h) = inl h
     by true e (inr h) = inr (h .0, later e (h .1))
+
+-- a check that another list holds, with the case of the first that fails, is that list in its place; what its case is where all hold is never answered
+pub in-line : {Q R L : Type 0} (before after : L) (result : R) (F : Q → R) (other : Q) (xs : List (Check Q)) (cs : List (Check R)) →
+    decide (check (allHold xs) (F (choose xs other)) ∷ cs) before result after ≡ decide (carried F xs ++ cs) before result after
+unfolding allHold choose decide carried
+in-line before after result F other [] cs = refl
+in-line {R = R} {L = L} before after result F other (x ∷ xs) cs = by (x .holds) (in-line before after result F other xs cs)
+  where
+    rest : Outcome R L
+    rest = decide (carried F xs ++ cs) before result after
+
+    by : (t : Bool) → cond (allHold xs) (decide cs before result after) (record { result = F (choose xs other); lent = before }) ≡ rest →
+        cond (t && allHold xs) (decide cs before result after) (record { result = F (cond t (choose xs other) (x .otherwise)); lent = before }) ≡
+        cond t rest (record { result = F (x .otherwise); lent = before })
+    by true e = e
+    by false e = refl
 
 -- ---- in the rule book's numbers
 

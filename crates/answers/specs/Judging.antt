@@ -16,6 +16,11 @@ unfoldable pub Each : {R : Type 0} → (R → Type 0) → List (Check R) → R �
 Each P [] result = P result
 Each P (c ∷ cs) result = (c .holds ≡ false → P (c .otherwise)) × (c .holds ≡ true → Each P cs result)
 
+-- the same checks, with cases of another call
+unfoldable pub carried : {Q R : Type 0} → (Q → R) → List (Check Q) → List (Check R)
+carried F [] = []
+carried F (c ∷ cs) = check (c .holds) (F (c .otherwise)) ∷ carried F cs
+
 -- every case of the list is a refusal: it has a number
 unfoldable pub allRefuse : {R A : Type 0} → (R → Answer A) → List (Check R) → Bool
 allRefuse answerOf [] = true

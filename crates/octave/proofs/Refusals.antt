@@ -1,28 +1,28 @@
 -- The block call's refusals: each has a number, and 8 has the place of the first bad sample. Assumes nothing.
 use mathlib.Core.Path.{_≡_, refl, sym, ap, subst, _∙_}
 use mathlib.Core.Bool.{true, false, false≢true}
-use mathlib.Core.List.{List}
+use mathlib.Core.List.{List, [], _∷_}
 use Prim.Native.Nat.{ℕ, _*_, _%_, _≤_, _<_}
 use native.Mathlib.Nat.{mul-le-mul-right}
 use native.Mathlib.Omega.{arith}
 use borrow.Author.Tests.{eqb-true, leb-true, lt-ltb}
 use lib.Dec.{eqb, leb}
 use lib.ListN.{length}
-use lib.IntN.{ℤ}
+use lib.IntN.{ℤ, pos}
 use Rattle.answers.specs.Answer.{Answer, refused, numberIn, placeIn}
-use Rattle.answers.specs.Checks.{allHold}
-use Rattle.answers.specs.Judging.{allRefuse}
+use Rattle.answers.specs.Checks.{check, allHold, decide}
+use Rattle.answers.specs.Judging.{carried, allRefuse}
 use Rattle.answers.specs.Range.{firstOutside, FirstAt, allWithin}
-use Rattle.answers.specs.Unit.{leastSample, mostSample, blockLimit}
-use Rattle.answers.proofs.Laws.{decided, every, eaching, unnumbered-holds}
+use Rattle.answers.specs.Unit.{leastSample, mostSample, largestGain, blockLimit}
+use Rattle.answers.proofs.Laws.{in-line, decided, every, eaching, unnumbered-holds}
 use Rattle.answers.proofs.Ranges.{first-at}
 use Rattle.frames.proofs.Laws.{whole-frames}
 use Rattle.octave.specs.declared.block.Blocked.{Blocked}
-use Rattle.octave.specs.declared.block.Blocked.the-variants.{Written, Memory, Sample}
+use Rattle.octave.specs.declared.block.Blocked.the-variants.{Written, Memory, GainCount, Gain, OutputLength, PartFrame, TooLong, Sample}
 use Rattle.octave.specs.declared.memory.Fault.{Fault}
 use Rattle.octave.specs.declared.memory.Fault.the-variants.{CountWrong, LengthWrong, PositionOutside}
 use Rattle.octave.specs.Answer.{faultNumber, blockAnswer}
-use Rattle.octave.specs.Memory.{bandsIn, channelsIn, accepts, faultOf}
+use Rattle.octave.specs.Memory.{lineLength, memoryLength, countAllowed, channelsAllowed, heldIn, bandsIn, channelsIn, positionWithin, memoryChecks, accepts, faultOf}
 use Rattle.octave.specs.Block.{framesOf, blockChecks, equalised, blockOf}
 use Rattle.octave.proofs.Memories.{accepted-is, channels-few}
 
@@ -36,6 +36,27 @@ unfolding allRefuse
 block-refuses memory gains input output =
     let f = faultOf memory in
     rw (lt-ltb 0 (faultNumber f) (omega (arith, fault-number f)))
+
+-- the memory's checks and the call's as one list: 31, 31, 32, 33, 4, 5, 6, 6, 7, 8
+pub one-list : (memory gains input output : List ℤ) →
+    let M = bandsIn memory in
+    let c = channelsIn memory in
+    blockOf memory gains input output ≡
+    decide (
+    check (countAllowed (heldIn memory .count)) (Memory CountWrong) ∷
+    check (channelsAllowed (heldIn memory .channels)) (Memory CountWrong) ∷
+    check (eqb (length memory) (memoryLength M c)) (Memory LengthWrong) ∷
+    check (positionWithin (lineLength M) (heldIn memory .position)) (Memory PositionOutside) ∷
+    check (eqb (length gains) M) GainCount ∷
+    check (allWithin (pos 0) (pos largestGain) gains) Gain ∷
+    check (eqb (length output) (length input)) OutputLength ∷
+    check (eqb (length input % c) 0) PartFrame ∷
+    check (leb (framesOf memory input) blockLimit) TooLong ∷
+    check (allWithin leastSample mostSample input) (Sample (firstOutside leastSample mostSample input)) ∷ [])
+    (memory, output) (Written (framesOf memory input)) (equalised memory gains input)
+unfolding carried
+one-list memory gains input output =
+    in-line (memory, output) (equalised memory gains input) (Written (framesOf memory input)) Memory PositionOutside (memoryChecks memory) _
 
 -- an answer without a number: every check held
 pub block-held : (memory gains input output : List ℤ) → numberIn (blockAnswer (blockOf memory gains input output .result)) ≡ 0 → allHold (blockChecks memory gains input output) ≡ true
