@@ -82,60 +82,80 @@ static int first_number(int set, int memory_number)
     return bit == 0 ? memory_number : bit + 3;
 }
 
-/* A call with the faults of a set. */
-static void call_with(int bands, int channels, int set)
+/* What is lent to a call with the faults of a set; of the memory's places so many are told. */
+struct call {
+    int bands, channels, set;
+    size_t frames, told;
+    struct places memory, gains, input, output;
+};
+
+/* Lengths with the faults of the set, and numbers that are right. */
+static struct call call_new(int bands, int channels, int set)
 {
-    size_t frames = 1 + random_below(100), gain_count = (size_t)bands, length, output_length;
+    struct call c = {.bands = bands, .channels = channels, .set = set, .frames = 1 + random_below(100)};
+    size_t gain_count = (size_t)bands;
     if (set & 16)
-        frames = 4097 + (random_below(4) ? random_below(3000) : 0);
+        c.frames = 4097 + (random_below(4) ? random_below(3000) : 0);
     else if (random_below(32) == 0)
-        frames = 4096;
+        c.frames = 4096;
     if (set & 2)
         gain_count = random_bits() & 1 ? (size_t)bands + 1 : (size_t)bands - 1;
-    output_length = length = frames * (size_t)channels;
+    size_t length = c.frames * (size_t)channels, output_length = length;
     if (set & 8)
         spoil_lengths(channels, &length, &output_length);
-    struct places memory = places_new((size_t)oeq_memory_length(bands, channels));
-    struct places gains = places_new(gain_count);
-    struct places input = places_new(length);
-    struct places output = places_new(output_length);
-    oeq_prepare(bands, channels, memory.lent, memory.length);
+    c.memory = places_new((size_t)oeq_memory_length(bands, channels));
+    c.gains = places_new(gain_count);
+    c.input = places_new(length);
+    c.output = places_new(output_length);
+    oeq_prepare(bands, channels, c.memory.lent, c.memory.length);
     for (size_t i = 0; i < gain_count; i++)
-        gains.lent[i] = (int32_t)random_below(16385);
+        c.gains.lent[i] = (int32_t)random_below(16385);
     for (size_t i = 0; i < length; i++)
-        input.lent[i] = (int32_t)random_below(1u << 24) - (1 << 23);
-    size_t whole = memory.length;
-    while (set & 1 && memory_fault(memory.lent, memory.length) == 0)
+        c.input.lent[i] = (int32_t)random_below(1u << 24) - (1 << 23);
+    return c;
+}
+
+/* The faults of the set that are not lengths: up to three of the memory and three bad samples. */
+static void spoil(struct call *c)
+{
+    struct places memory = c->memory;
+    while (c->set & 1 && memory_fault(memory.lent, memory.length) == 0)
         for (int ways = 1 + (int)random_below(3); ways > 0; ways--)
-            spoil_memory(&memory, bands, channels);
-    if (set & 4)
-        spoil_gain(gains.lent, gain_count);
-    for (int ways = set & 32 ? 1 + (int)random_below(3) : 0; ways > 0; ways--)
-        spoil_sample(input.lent, length);
-    size_t lent = memory.length;
-    memory.length = whole;
-    places_mark(memory);
-    places_mark(gains);
-    places_mark(input);
-    places_mark(output);
-    int64_t answer = oeq_block(memory.lent, lent, gains.lent, gains.length, input.lent, input.length, output.lent,
-                               output.length);
-    if (set == 0) {
-        CHECK(answer == (int64_t)frames, "answered %lld", (long long)answer);
-        CHECK(places_around_same(memory) && places_around_same(output), "%d bands, %d channels", bands, channels);
+            spoil_memory(&memory, c->bands, c->channels);
+    c->told = memory.length;
+    if (c->set & 4)
+        spoil_gain(c->gains.lent, c->gains.length);
+    for (int ways = c->set & 32 ? 1 + (int)random_below(3) : 0; ways > 0; ways--)
+        spoil_sample(c->input.lent, c->input.length);
+}
+
+/* The answer, and what has changed since the marks. */
+static void check_answer(const struct call *c, int64_t answer)
+{
+    if (c->set == 0) {
+        CHECK(answer == (int64_t)c->frames, "answered %lld", (long long)answer);
+        CHECK(places_around_same(c->memory) && places_around_same(c->output), "%d bands, %d channels", c->bands, c->channels);
     } else {
-        int number = first_number(set, memory_fault(memory.lent, lent));
-        size_t place = number == 8 ? first_bad(input.lent) : 0;
+        int number = first_number(c->set, memory_fault(c->memory.lent, c->told));
+        size_t place = number == 8 ? first_bad(c->input.lent) : 0;
         IS_REFUSAL_AT(answer, number, place);
         CHECK(oeq_is_refusal(answer) && oeq_refusal_number(answer) == number && oeq_refusal_place(answer) == (int64_t)place,
               "the header's helpers");
-        CHECK(places_same(memory) && places_same(output), "%d bands, %d channels, refused %d", bands, channels, number);
+        CHECK(places_same(c->memory) && places_same(c->output), "%d bands, %d channels, refused %d", c->bands, c->channels, number);
     }
-    CHECK(places_same(gains) && places_same(input), "%d bands, %d channels", bands, channels);
-    places_free(memory);
-    places_free(gains);
-    places_free(input);
-    places_free(output);
+    CHECK(places_same(c->gains) && places_same(c->input), "%d bands, %d channels", c->bands, c->channels);
+}
+
+static void call_with(int bands, int channels, int set)
+{
+    struct call c = call_new(bands, channels, set);
+    struct places *lent[] = {&c.memory, &c.gains, &c.input, &c.output};
+    spoil(&c);
+    for (int i = 0; i < 4; i++)
+        places_mark(*lent[i]);
+    check_answer(&c, oeq_block(c.memory.lent, c.told, c.gains.lent, c.gains.length, c.input.lent, c.input.length, c.output.lent, c.output.length));
+    for (int i = 0; i < 4; i++)
+        places_free(*lent[i]);
 }
 
 static const int32_t unity[11] = {4096, 4096, 4096, 4096, 4096, 4096, 4096, 4096, 4096, 4096, 4096};
