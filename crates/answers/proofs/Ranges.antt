@@ -31,15 +31,6 @@ within-ends lo hi z e = by (ltZ z lo) refl e
 
 -- ---- the first outside
 
-pub first-most : (lo hi : ℤ) (s : List ℤ) → firstOutside lo hi s ≤ length s
-unfolding firstOutside
-first-most lo hi [] = omega arith
-first-most lo hi (x ∷ xs) = by (within lo hi x) (firstOutside lo hi xs) (first-most lo hi xs)
-  where
-    by : (t : Bool) (k : ℕ) → k ≤ length xs → cond t (suc k) 0 ≤ suc (length xs)
-    by true k h = omega arith
-    by false k h = omega arith
-
 first-from : (lo hi : ℤ) (s : List ℤ) (i : ℕ) → i < length s →
     firstOutside lo hi (drop i s) ≡ cond (within lo hi (getD s i (pos 0))) (suc (firstOutside lo hi (drop (i + 1) s))) 0
 unfolding firstOutside
