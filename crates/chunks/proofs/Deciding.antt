@@ -1,13 +1,13 @@
 -- Where a walk ends, and that nothing after what the deciding chunk looks at decides. Assumes nothing.
 use mathlib.Core.Path.{_≡_, refl, sym, ap, _∙_}
 use mathlib.Core.List.{List}
-use Prim.Native.Nat.{ℕ, zero, suc, _+_, _-_, _≤_}
+use Prim.Native.Nat.{ℕ, zero, suc, _+_, _-_, _%_, _≤_}
 use native.Mathlib.Omega.{arith}
 use lib.ListN.{length, drop}
 use Rattle.fields.specs.Bytes.{Order}
 use Rattle.chunks.specs.Walk.{headerLength, sizeIn, next, Step, ends, on, visit, follow, walk}
 use Rattle.chunks.proofs.Alike.{Alike, alike-drop, field-alike}
-use Rattle.chunks.proofs.Walks.{next-behind, next-further, visit-whole, visit-past, went-on, turn}
+use Rattle.chunks.proofs.Walks.{next-behind, next-further, next-even, visit-whole, visit-past, went-on, turn}
 
 module _ (order : Order) {Met Answer : Type 0} (cut : Answer) (step : List ℕ → ℕ → Met → Step Met Answer) where
   -- a step looks only at its own chunk: at the header, and at no more than the contents
@@ -26,6 +26,13 @@ module _ (order : Order) {Met Answer : Type 0} (cut : Answer) (step : List ℕ �
   comes-further front at place met last here = omega arith
   comes-further front at place met last (there {seen = seen} e c) =
       omega (arith, next-further at (sizeIn order (drop at front)), comes-further front (next at (sizeIn order (drop at front))) place seen last c)
+
+  -- from an even place on, every chunk starts at one
+  pub comes-even : (front : List ℕ) (at place : ℕ) (met last : Met) → Comes front at met place last → at % 2 ≡ 0 → place % 2 ≡ 0
+  comes-even front at place met last here even = even
+  comes-even front at place met last (there {seen = seen} e c) even =
+      let size = sizeIn order (drop at front) in
+      comes-even front (next at size) place seen last c (next-even at size even)
 
   -- ---- every walk ends at a chunk
 

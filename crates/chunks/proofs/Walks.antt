@@ -2,7 +2,7 @@
 use mathlib.Core.Path.{_≡_, refl, sym, ap, _∙_}
 use mathlib.Core.Bool.{Bool, true, false, cond}
 use mathlib.Core.List.{List}
-use Prim.Native.Nat.{ℕ, zero, suc, _+_, _-_, _<_, _≤_}
+use Prim.Native.Nat.{ℕ, zero, suc, _+_, _-_, _%_, _<_, _≤_}
 use native.Mathlib.Omega.{arith}
 use lib.ListN.{length, take, drop, length-drop}
 use lib.Seq.{take-all, drop-drop}
@@ -21,6 +21,11 @@ next-behind at size = omega arith
 -- .. so the walk goes further
 pub next-further : (at size : ℕ) → at + headerLength ≤ next at size
 next-further at size = omega (arith, next-behind at size)
+
+-- .. and from an even place to an even place
+pub next-even : (at size : ℕ) → at % 2 ≡ 0 → next at size % 2 ≡ 0
+unfolding next
+next-even at size even = omega arith
 
 -- a lent rest is the rest
 pub lent-rest : (front : List ℕ) (at : ℕ) → take (length front - at) (drop at front) ≡ drop at front

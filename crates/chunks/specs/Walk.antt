@@ -1,8 +1,8 @@
 -- The walk over the chunks of a front, for any file format: what a chunk means is the format's `step`.
-use Prim.Native.Nat.{ℕ, zero, suc, _+_}
+use Prim.Native.Nat.{ℕ, zero, suc, _+_, _%_}
 use mathlib.Core.Bool.{Bool, _&&_, cond}
 use mathlib.Core.List.{List, _++_}
-use lib.ListN.{length, take, drop}
+use lib.ListN.{length, take, drop, replicate}
 use lib.Dec.{leb}
 use Rattle.fields.specs.Bytes.{Order, field, row, same}
 
@@ -30,9 +30,21 @@ sizeIn order rest = field order rest 4 4
 abbrev pub named : List ℕ → List ℕ → Bool
 named rest name = same (take 4 rest) name
 
+-- rule 8.4: how many bytes follow contents of a length, which that length does not count: one if it is odd
+abbrev pub padding : ℕ → ℕ
+padding size = size % 2
+
+-- rule 8.4: the bytes that such contents take
+abbrev pub padded : ℕ → ℕ
+padded size = size + padding size
+
 -- rule 8.4: where the next chunk starts
 unfoldable pub next : ℕ → ℕ → ℕ
-next at size = at + headerLength + size
+next at size = at + headerLength + padded size
+
+-- rule 8.15: the pad that is written behind contents of a length: a zero byte, or none
+abbrev pub pad : ℕ → List ℕ
+pad size = replicate (padding size) 0
 
 -- rule 8.6: whether a chunk's contents are all in the front
 abbrev pub contained : Order → List ℕ → Bool

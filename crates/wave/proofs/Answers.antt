@@ -14,7 +14,7 @@ use Rattle.fields.proofs.ByTest.{cond-case}
 use Rattle.chunks.specs.Walk.{headerLength, sizeIn, named, Step, ends, walk}
 use Rattle.chunks.proofs.Headers.{size-there}
 use Rattle.chunks.proofs.Walks.{Visited, cuts, steps, visited}
-use Rattle.chunks.proofs.Deciding.{Comes, landing, kept}
+use Rattle.chunks.proofs.Deciding.{Comes, comes-even, landing, kept}
 use Rattle.samples.specs.Channels.{countOf}
 use Rattle.wave.specs.Names.{riff, wave, data′}
 use Rattle.wave_values.specs.Values.{frameSize, knownRate}
@@ -128,6 +128,12 @@ module _ (lent : List ℕ) (f : Found) where
   accepted-start e =
       let l = accepted-means e .landed in
       omega (arith, l .whole, l .start-is, length-take frontLength lent)
+
+  -- .. at an even place
+  pub accepted-even : readOf lent ≡ accepted f → f .start % 2 ≡ 0
+  accepted-even e =
+      let l = accepted-means e .landed in
+      omega (arith, l .start-is, comes-even lowest (refused 24 0) chunk (take frontLength lent) 12 (l .place) nothing (l .last) (l .comes) refl)
 
   pub accepted-rate : readOf lent ≡ accepted f → knownRate (f .rate) ≡ true
   accepted-rate e = accepted-means e .landed .rate-known
