@@ -54,6 +54,6 @@ blockLimit = 4096
 abbrev pub frontLength : ℕ
 frontLength = 4096
 
--- rule 6.8, header writer: the most bytes of samples that a header states: its RIFF length, 36 more, stays below 2^32
+-- rule 8.13: the most bytes of samples that a header states: with 36 more and its pad the RIFF length stays below 2^32 (wave_writer/proofs/Sizes: `largest-is`)
 abbrev pub largestData : ℕ
-largestData = 4294967259
+largestData = 4294967258

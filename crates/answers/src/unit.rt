@@ -19,4 +19,4 @@ pub const BLOCK_LIMIT: usize = 4096;
 // The most bytes that a header's reader looks at.
 pub const FRONT_LENGTH: usize = 4096;
 // The most bytes of samples that a header states.
-pub const LARGEST_DATA: u32 = 4294967259;
+pub const LARGEST_DATA: u32 = 4294967258;

@@ -1,3 +1,4 @@
 pub mod Writing
 pub mod Counts
 pub mod RoundTrips
+pub mod Sizes

@@ -1,5 +1,5 @@
 -- The header writer: rows stored one behind the other are the header. Assumes nothing.
-use mathlib.Core.Path.{_≡_, refl, sym, _∙_}
+use mathlib.Core.Path.{_≡_, refl, sym, ap, _∙_}
 use mathlib.Core.Bool.{true}
 use mathlib.Core.List.{List, _++_}
 use Prim.Native.Nat.{ℕ, _*_, _%_, _≤_}
@@ -50,12 +50,12 @@ fmt-row rate count frame bits l m₁ m₂ m₃ m₄ m₅ m₆ f b e₁ e₂ e₃
     let f₂ = behind m₁ m₂ m₆ (row lowest 2 count) t₃ 22 2 (length-row lowest 2 count) e₂ f₃ in
     behind l m₁ m₆ (row lowest 2 1) (row lowest 2 count ++ t₃) 20 2 (length-row lowest 2 1) e₁ f₂ ∙ rw (f, b)
 
-pub header-row : (rate size count : ℕ) (l m₁ m₂ m₃ m₄ m₅ : List ℕ) → length l ≡ headerBytes →
-    m₁ ≡ sets l 0 (chunkHeader lowest riff (riffSize size)) → m₂ ≡ sets m₁ 8 wave → m₃ ≡ sets m₂ 12 (chunkHeader lowest fmt fmtLength) →
+pub header-row : (rate size count all : ℕ) (l m₁ m₂ m₃ m₄ m₅ : List ℕ) → length l ≡ headerBytes → all ≡ riffSize size →
+    m₁ ≡ sets l 0 (chunkHeader lowest riff all) → m₂ ≡ sets m₁ 8 wave → m₃ ≡ sets m₂ 12 (chunkHeader lowest fmt fmtLength) →
     m₄ ≡ sets m₃ 20 (fmtContents rate count) → m₅ ≡ sets m₄ 36 (chunkHeader lowest data′ size) →
     m₅ ≡ header rate size count
 unfolding header
-header-row rate size count l m₁ m₂ m₃ m₄ m₅ whole e₁ e₂ e₃ e₄ e₅ =
+header-row rate size count all l m₁ m₂ m₃ m₄ m₅ whole is e₁ e₂ e₃ e₄ e₅ =
     let t₄ = fmtContents rate count ++ chunkHeader lowest data′ size in
     let t₃ = chunkHeader lowest fmt fmtLength ++ t₄ in
     let t₂ = wave ++ t₃ in
@@ -63,7 +63,7 @@ header-row rate size count l m₁ m₂ m₃ m₄ m₅ whole e₁ e₂ e₃ e₄ 
     let f₃ = behind m₂ m₃ m₅ (chunkHeader lowest fmt fmtLength) t₄ 12 8 (chunks.length-header lowest fmt fmtLength refl) e₃ f₄ in
     let f₂ = behind m₁ m₂ m₅ wave t₃ 8 4 refl e₂ f₃ in
     let f₁ : m₅ ≡ sets l 0 (header rate size count) =
-    behind l m₁ m₅ (chunkHeader lowest riff (riffSize size)) t₂ 0 8 (chunks.length-header lowest riff (riffSize size) refl) e₁ f₂ in
+    behind l m₁ m₅ (chunkHeader lowest riff all) t₂ 0 8 (chunks.length-header lowest riff all refl) e₁ f₂ ∙ ap (λ (n : ℕ). sets l 0 (chunkHeader lowest riff n ++ t₂)) is in
     f₁ ∙ sets-whole l (header rate size count) (length-header rate size count ∙ sym whole)
 
 -- ---- the call

@@ -9,7 +9,7 @@ use Rattle.answers.specs.Checks.{Check, check, Outcome, decide}
 use Rattle.answers.specs.Range.{within}
 use Rattle.answers.specs.Unit.{fewestChannels, mostChannels, largestData}
 use Rattle.fields.specs.Bytes.{lowest, row}
-use Rattle.chunks.specs.Walk.{chunkHeader}
+use Rattle.chunks.specs.Walk.{chunkHeader, padded}
 use Rattle.samples.specs.Format.{bitsOf}
 use Rattle.samples.specs.declared.format.Format.{Format}
 use Rattle.samples.specs.declared.format.Format.the-variants.{Bits24}
@@ -26,9 +26,9 @@ written = Bits24
 abbrev pub headerBytes : ℕ
 headerBytes = 44
 
--- rule 8.13: the RIFF length counts the header from byte 8 on, and the samples
+-- rule 8.13: the RIFF length counts the header from byte 8 on, and the samples with their pad
 abbrev pub riffSize : ℕ → ℕ
-riffSize size = size + 36
+riffSize size = padded size + 36
 
 -- rule 8.13: `fmt `: tag 1, channels, rate, byte rate, block size, bits
 unfoldable pub fmtContents : (rate count : ℕ) → List ℕ

@@ -4,6 +4,7 @@ use answers::unit::FEWEST_CHANNELS;
 use answers::unit::LARGEST_DATA;
 use answers::unit::MOST_CHANNELS;
 use chunks::lowest::put_chunk;
+use chunks::place::padding;
 use fields::lowest::put_four;
 use fields::lowest::put_two;
 use fields::names::put_name;
@@ -19,7 +20,7 @@ ghost use lib.Seq.{sets};
 ghost use Rattle.answers.specs.Checks.{Done};
 ghost use Rattle.answers.specs.Unit.{largestData};
 ghost use Rattle.wave_values.specs.Values.{frameSize};
-ghost use Rattle.wave_writer.specs.Header.{written, headerBytes, header, fmtContents, writeOf};
+ghost use Rattle.wave_writer.specs.Header.{written, headerBytes, riffSize, header, fmtContents, writeOf};
 
 // The bytes of the header.
 const HEADER_BYTES: usize = 44;
@@ -60,11 +61,19 @@ fn put_format(buffer: &mut [u8], rate: u32, count: u32)
     put_two(buffer, 34, bits(Format::Bits24));
 }
 
+// The RIFF length: all that follows it in the file.
+fn riff_size(size: u32) -> u32
+    requires { ⌜ size ≤ largestData ⌝ }
+    ensures { λ r. ⌜ r ≡ riffSize size ⌝ }
+{
+    size + padding(size as usize) as u32 + 36
+}
+
 fn put_header(buffer: &mut [u8], rate: u32, size: u32, count: u32)
     requires { ⌜ (length (now buffer) ≡ headerBytes) × (rate ≤ 48000) × (size ≤ largestData) × (0 < count) × (count < 3) ⌝ }
     ensures { λ _. ⌜ now (buffer .exit) ≡ header rate size count ⌝ }
 {
-    put_chunk(buffer, 0, b"RIFF", size + 36);
+    put_chunk(buffer, 0, b"RIFF", riff_size(size));
     put_name(buffer, 8, b"WAVE");
     put_chunk(buffer, 12, b"fmt ", FMT_LENGTH);
     put_format(buffer, rate, count);
