@@ -15,4 +15,5 @@ pub use start::begin;
 pub use turn::Turn;
 pub use turn::fed_in_all;
 pub use turn::next_turn;
+pub use turn::pad_after;
 pub use turn::short;

@@ -1,5 +1,6 @@
 // The plan of a run: the frames of the file and as many zeros after them as the delay go through the equaliser in full blocks.
 use answers::unit::BLOCK_LIMIT;
+use chunks::place::padding;
 use samples::Channels;
 use samples::Format;
 use samples::channel_count;
@@ -7,6 +8,8 @@ use wave_values::frame_size;
 use whole::counts::least;
 use whole::counts::left;
 ghost use mathlib.Core.Path.{_≡_};
+ghost use Prim.Native.Nat.{_*_};
+ghost use Rattle.chunks.specs.Walk.{padding};
 ghost use Rattle.samples.specs.Channels.{countOf};
 ghost use Rattle.wave_values.specs.Values.{frameSize};
 ghost use Rattle.eqfile.specs.Turn.{fedInAll, allRead, wantedOf, turnOf, shortOf};
@@ -77,4 +80,11 @@ pub fn short(format: Format, channels: Channels, frames: u32, read: usize) -> us
         frame_size(channels, format) as usize * frames as usize,
         read,
     )
+}
+
+// How many bytes of padding follow the last sample that is written.
+pub fn pad_after(channels: Channels, frames: u32) -> usize
+    ensures { λ r. ⌜ r ≡ padding (3 * (countOf channels * frames)) ⌝ }
+{
+    padding(3 * (channel_count(channels) as usize * frames as usize))
 }

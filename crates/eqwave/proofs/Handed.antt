@@ -1,9 +1,12 @@
 -- What the program hands over and says, in the definitions of a run: each write is the next part of it, and `short` is what the header states but was not read. Assumes nothing.
-use mathlib.Core.Path.{_≡_, sym, ap, _∙_}
+use mathlib.Core.Path.{_≡_, refl, sym, ap, _∙_}
 use mathlib.Core.List.{List, [], _∷_, _++_}
-use Prim.Native.Nat.{ℕ, _+_, _*_}
-use lib.ListN.{length, take, drop}
+use Prim.Native.Nat.{ℕ, zero, suc, _+_, _*_, _≤_}
+use native.Mathlib.Omega.{arith}
+use lib.ListN.{length, take, drop, replicate}
 use lib.IntN.{ℤ}
+use Rattle.fields.specs.Bytes.{lowest, field}
+use Rattle.chunks.specs.Walk.{padding, padded, pad}
 use Rattle.samples.specs.Channels.{countOf}
 use Rattle.eqfile.specs.Turn.{shortOf}
 use Rattle.runs.specs.Program.{State, fresh, handed, frameBytes, blockDone, programWrites}
@@ -11,7 +14,7 @@ use Rattle.runs.specs.Started.{fileOf}
 use Rattle.runs.proofs.OneMore.{writes-more}
 use Rattle.runs.proofs.Starting.{stated}
 use Rattle.runs.proofs.DataRead.{short-adds-up, front-first}
-use Rattle.runs.proofs.WholeFile.{file-length}
+use Rattle.runs.proofs.WholeFile.{file-length, riff-length}
 use Rattle.turning.specs.declared.place.Job.{Job}
 use Rattle.turning.specs.Running.{Due, Ended}
 
@@ -26,6 +29,15 @@ due-is-next job gains front bytes d =
     ap (λ (l : List ℕ). programWrites gains (job .format) (job .channels) (job .frames) (fresh (job .channels)) us ++ l)
     (sym (d .is ∙ ap (λ (s : State). blockDone gains (job .format) (job .channels) (job .frames) s (d .piece) .lent .1) (run .stands)))
 
+-- of one zero byte, as many as the pad has
+pub zero-taken : (size n : ℕ) → n ≡ padding size → take n (replicate {A = ℕ} 1 0) ≡ pad size
+zero-taken size n e = ap (λ (k : ℕ). take k (replicate {A = ℕ} 1 0)) e ∙ by (padding size) (omega arith)
+  where
+    by : (k : ℕ) → k ≤ 1 → take k (replicate {A = ℕ} 1 0) ≡ replicate k 0
+    by zero h = refl
+    by (suc zero) h = refl
+    by (suc (suc k)) h = absurd (omega arith)
+
 module _ (job : Job) (gains : List ℤ) (front : List ℕ) (read : ℕ) (e : Ended job gains front read) where
   -- the bytes read and those that are short are the `data` that the header states
   pub short-said : read + shortOf (frameBytes (job .format) (job .channels)) (job .frames) read ≡ stated (e .started) .found .size
@@ -37,6 +49,13 @@ module _ (job : Job) (gains : List ℤ) (front : List ℕ) (read : ℕ) (e : End
   pub front-read-first : let came = take (frameBytes (job .format) (job .channels) * job .frames) (drop (job .start) front) in take (length came) (handed (e .pieces)) ≡ came
   front-read-first = front-first gains (job .format) (job .channels) (job .frames) front (job .start) (e .pieces) (e .started .few) (e .by-plan) (e .fetched)
 
-  -- the file is as long as its header says
-  pub whole-length : length (fileOf gains (e .rate) (job .format) (job .channels) (job .frames) (e .pieces)) ≡ 44 + 3 * (countOf (job .channels) * job .frames)
+  abbrev file : List ℕ
+  file = fileOf gains (e .rate) (job .format) (job .channels) (job .frames) (e .pieces)
+
+  -- the file is as long as its header says, with the pad ..
+  pub whole-length : length file ≡ 44 + padded (3 * (countOf (job .channels) * job .frames))
   whole-length = file-length (e .started) (e .pieces) (e .by-plan)
+
+  -- .. and as its RIFF length says
+  pub riff-says : field lowest file 4 4 + 8 ≡ length file
+  riff-says = riff-length (e .started) (e .pieces) (e .by-plan)

@@ -27,7 +27,28 @@ fn missing(job: Job, gains: &[i32], front: &[u8], read: usize)
     }
 }
 
-// Every turn, and then what is missing. It stops where standard output takes no more.
+// The pad behind the last sample. Answers whether standard output took it.
+fn put_pad(job: Job, gains: &[i32], front: &[u8], read: usize) -> bool
+    requires { ⌜ Ended job (now gains) (now front) read ⌝ }
+{
+    let zero = [0u8; 1];
+    let channels = job.channels;
+    let n = eqfile::pad_after(channels, job.frames);
+    output::hand_pad(&zero[..n], job, gains, front, read)
+}
+
+// The end of a run that read so many bytes: the pad, and then what is missing.
+fn finish(job: Job, gains: &[i32], front: &[u8], read: usize)
+    requires { ⌜ Ended job (now gains) (now front) read ⌝ }
+{
+    if !put_pad(job, gains, front, read) {
+        say::output_failed();
+        return;
+    }
+    missing(job, gains, front, read);
+}
+
+// Every turn, and then the end. It stops where standard output takes no more.
 fn turns(job: Job, gains: &[i32], front: &[u8], memory: &mut [i32])
     requires { ⌜ Running job (now gains) (now front) (record { at = 0; read = 0 }) (now memory) ⌝ }
 {
@@ -41,7 +62,7 @@ fn turns(job: Job, gains: &[i32], front: &[u8], memory: &mut [i32])
         };
         place = further;
     }
-    missing(job, gains, front, place.read);
+    finish(job, gains, front, place.read);
 }
 
 // The header of a run that has started. Answers whether standard output took it.

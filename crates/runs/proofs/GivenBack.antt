@@ -39,7 +39,7 @@ use Rattle.blocks.proofs.Outputs.{allInRange, none-within, out-in-range, woven-
 use Rattle.runs.proofs.InRange.{from-within}
 use Rattle.runs.proofs.Written.{from-long, unity-output, noughts-are-unity, all-unity}
 use Rattle.runs.proofs.EachSide.{only-side-out}
-use Rattle.runs.proofs.Program.{program-writes, program-length}
+use Rattle.runs.proofs.Program.{program-writes, turns-length}
 
 -- ---- samples
 
@@ -122,7 +122,7 @@ module _ (texts : List (List ℕ)) (gains : List ℤ) (taken : argumentsOf texts
   outputs-read-back =
       let c = countOf channels in
       let os = framesOut gains channels frames xs in
-      all-there (c * frames) written (program-length texts gains taken format channels frames us turns) ∙
+      all-there (c * frames) written (turns-length texts gains taken format channels frames us turns) ∙
       ap₂ (λ (n : ℕ) (s : List ℕ). samplesOf n Bits24 s) (sym (woven-length c frames (λ s. outputsOf gains frames (sideOf c s xs)))) (program-writes texts gains taken format channels frames us turns) ∙
       block-there-and-back os (frames-in-range gains channels frames xs)
 

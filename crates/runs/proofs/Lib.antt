@@ -13,3 +13,4 @@ pub mod Starting
 pub mod DataRead
 pub mod WholeFile
 pub mod OneMore
+pub mod FileBack

@@ -5,7 +5,7 @@ use Prim.Native.Nat.{ℕ, _+_, _-_, _*_, _%_, _≤_, _<_, min}
 use native.Mathlib.Nat.{mul-sub, mul-mod-right, mul-le-mul-left}
 use native.Mathlib.Decide.{decLt}
 use native.Mathlib.Omega.{arith}
-use lib.ListN.{length, drop, replicate, length-replicate}
+use lib.ListN.{length, drop, replicate, length-append, length-replicate}
 use lib.Seq.{drop-nil, drop-length, drop-append-le, drop-append-add}
 use lib.IntN.{ℤ}
 use Rattle.frames.proofs.Laws.{woven-length}
@@ -15,6 +15,7 @@ use Rattle.history.specs.History.{played, AllAccepted}
 use Rattle.history.proofs.WholeHistory.{played-accepted}
 use Rattle.answers.specs.Answer.{accepted}
 use Rattle.answers.specs.Checks.{Outcome}
+use Rattle.chunks.specs.Walk.{padding, padded, pad}
 use Rattle.samples.specs.Samples.{bytesOf}
 use Rattle.samples.specs.Channels.{countOf}
 use Rattle.samples.specs.declared.channels.Channels.{Channels}
@@ -28,6 +29,7 @@ use Rattle.eqfile.specs.Turn.{late, turnOf}
 use Rattle.eqfile.proofs.Turns.{few-channels, samples-most}
 use Rattle.blocks.specs.Equalise.{zeros, blockFor}
 use Rattle.runs.specs.Program.{State, fresh, Follows, handed, turnAt, turnSamples, blockDone, next, after, Followed, ByPlan, programWrites, framesOut, samplesRead}
+use Rattle.runs.specs.Started.{bodyOf}
 use Rattle.runs.proofs.Written.{SameGains}
 use Rattle.runs.proofs.EachSide.{frames-written}
 use Rattle.runs.proofs.BlockCalls.{calls, calls-join}
@@ -153,10 +155,16 @@ module _ (texts : List (List ℕ)) (gains : List ℤ) (taken : argumentsOf texts
         turns-accepted (same-gains gains format channels frames (fresh channels) us) (calls-join gains format channels frames us turns) (few-channels channels .0))
 
     -- .. which is as long as the header says
-    pub program-length : length (programWrites gains format channels frames (fresh channels) us) ≡ 3 * (countOf channels * frames)
-    program-length =
+    pub turns-length : length (programWrites gains format channels frames (fresh channels) us) ≡ 3 * (countOf channels * frames)
+    turns-length =
         let out = framesOut gains channels frames (samplesRead format channels frames (handed us)) in
         ap length program-writes ∙ length-bytes out ∙ ap (λ (n : ℕ). 3 * n) (woven-length (countOf channels) frames _)
+
+    -- .. and with the pad an even number of bytes
+    pub program-length : length (bodyOf gains format channels frames us) ≡ padded (3 * (countOf channels * frames))
+    program-length =
+        let size = 3 * (countOf channels * frames) in
+        length-append (programWrites gains format channels frames (fresh channels) us) (pad size) ∙ omega (arith, turns-length, length-replicate {A = ℕ} (padding size) 0)
 
 -- the same bytes in other pieces: the same bytes are written
 pub pieces-do-not-matter : (texts : List (List ℕ)) (gains : List ℤ) → argumentsOf texts ≡ accepted gains → (format : Format) (channels : Channels) (frames : ℕ) (us vs : List (List ℕ)) →

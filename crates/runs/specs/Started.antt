@@ -6,6 +6,7 @@ use lib.ListN.{length}
 use lib.IntN.{ℤ}
 use Rattle.answers.specs.Answer.{accepted}
 use Rattle.answers.specs.Unit.{frontLength}
+use Rattle.chunks.specs.Walk.{pad}
 use Rattle.wave_writer.specs.Header.{header}
 use Rattle.samples.specs.Channels.{countOf}
 use Rattle.samples.specs.declared.channels.Channels.{Channels}
@@ -23,7 +24,10 @@ pub record Started (gains : List ℤ) (front : List ℕ) (rate : ℕ) (format : 
   pub few : length front ≤ frontLength
   pub begins : startAnswer (Run rate format channels frames start) ≡ startOf (Taken bands) front
 
--- rule 10.8: the file that a run writes: the header, and what its turns hand over
+-- rule 10.8: what a run writes behind the header: what its turns hand over, and the pad
+abbrev pub bodyOf : (gains : List ℤ) (format : Format) (channels : Channels) (frames : ℕ) → List (List ℕ) → List ℕ
+bodyOf gains format channels frames us = programWrites gains format channels frames (fresh channels) us ++ pad (3 * (countOf channels * frames))
+
+-- rule 10.8: the file that a run writes
 abbrev pub fileOf : (gains : List ℤ) (rate : ℕ) (format : Format) (channels : Channels) (frames : ℕ) → List (List ℕ) → List ℕ
-fileOf gains rate format channels frames us =
-    header rate (3 * (countOf channels * frames)) (countOf channels) ++ programWrites gains format channels frames (fresh channels) us
+fileOf gains rate format channels frames us = header rate (3 * (countOf channels * frames)) (countOf channels) ++ bodyOf gains format channels frames us

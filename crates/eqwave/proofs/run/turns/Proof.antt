@@ -60,8 +60,8 @@ loop-again c =
     let l = c .before .before .before .before .before .before .before .before in
     (l .loop .inv .0, c .before .before .before .before .one-turn .kept .1 .1 .1 .1 .0 ∙ l .loop .inv .1, on-further c .0)
 
-missing-requires : tie.Need-missing-requires Inv-loop μ-loop
-missing-requires c κs =
+finish-requires : tie.Need-finish-requires Inv-loop μ-loop
+finish-requires c κs =
     let l = c .before .before in
     let a = l .before .before .before .args in
     ended (a .job) (now (a .gains)) (now (a .front)) (l .loop .place) (l .loop .memory) (l .loop .inv .2) (omega (arith, l .loop .inv .0))
@@ -76,4 +76,4 @@ pub turns-spec : {M : Type 1} → statement M
 turns-spec =
     tie.close
     (tie.spec Inv-loop μ-loop (λ c κs. tt) loop-holds one-turn-requires enum-known-turned enum-told (λ c κs. tt) same-length returns loop-less loop-again
-    missing-requires same-length-2 returns-2)
+    finish-requires same-length-2 returns-2)
