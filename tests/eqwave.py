@@ -4,6 +4,7 @@
 Each expected byte is the model's. Exits with 1 if anything differs, or if the program was not built before. `--stored` writes the stored run."""
 import os
 import random
+import resource
 import subprocess
 import sys
 import tempfile
@@ -83,9 +84,9 @@ def interleaved(left, right):
 
 
 def stored():
-    """The stored run: its arguments, its input and the model's output. It has two turns, and both read data."""
+    """The stored run: its arguments, its input and the model's output. It has two turns, both read data, and a pad follows."""
     args = ["24", "-12", "0", "7", "-1", "0", "12", "24"]
-    data = random.Random(4500).randbytes(2 * 4500)
+    data = random.Random(4501).randbytes(2 * 4501)
     output = equalised(args, widened(data), rate=44100)
     return {"args": "".join(a + "\n" for a in args).encode(), "stdin": riff(fmt(44100, 16), chunk(b"data", data)), "stdout": output}
 
@@ -138,7 +139,7 @@ def argument_values(rng):
 
 def headers():
     data = chunk(b"data", b"\1\0\0")
-    pad = chunk(b"note", b"\0" * 4090)
+    beyond = chunk(b"note", b"\0" * 4090)
     for name, source, number in [
         ("nothing", b"", 21),
         ("11 bytes", WHOLE[:11], 21),
@@ -160,7 +161,9 @@ def headers():
         ("byte rate", riff(fmt(byte_rate=1), data), 23),
         ("no data", riff(fmt()), 24),
         ("a cut chunk header", riff(fmt(), b"data\0"), 24),
-        ("data past 4096", riff(fmt(), pad, data), 24),
+        ("data past 4096", riff(fmt(), beyond, data), 24),
+        ("a note without its pad before fmt", riff(chunk(b"note", b"abc", 3), fmt(), data), 24),
+        ("a note without its pad before data", riff(fmt(), chunk(b"note", b"abc", 3), data), 24),
         ("4 bytes of data", riff(fmt(), chunk(b"data", b"\0" * 4)), 25),
         ("3 bytes of data in 16 bits", riff(fmt(bits=16), chunk(b"data", b"\0" * 3)), 25),
         ("one side of 24 bits", riff(fmt(channels=2), data), 25),
@@ -200,8 +203,23 @@ def accepted_headers(rng):
         expect(f"chunks before data, {channels}", run(args, riff(before, chunk(b"data", data))), want)
         expect(f"bytes after the data, {channels}", run(args, file24(data, 48000, channels) + b"LIST\x04\0\0\0abcd"), want)
         expect(f"any RIFF size, {channels}", run(args, riff(sound, chunk(b"data", data), size=0)), want)
-        pad = chunk(b"note", b"\0" * (4096 - 12 - 24 - 8 - 8))
-        expect(f"a header that ends at 4096, {channels}", run(args, riff(sound, pad, chunk(b"data", data))), want)
+        for length in (1, 3, 4043, 4044):
+            note = chunk(b"note", b"x" * length)
+            expect(f"a note of {length} before data, {channels}", run(args, riff(sound, note, chunk(b"data", data))), want)
+            expect(f"a note of {length} before fmt, {channels}", run(args, riff(note, sound, chunk(b"data", data))), want)
+
+
+def odd_data(rng):
+    """Odd data is read with its pad, with any other byte in the pad's place, with chunks behind it, and without its pad; a zero byte follows what is written."""
+    for frames in (1, 3, 1143, 2953, 4097):
+        data, args = samples(frames, rng), settings(rng)
+        want = equalised(args, data)
+        assert len(want) == 44 + 3 * frames + 1 and want[-1] == 0
+        bare = riff(fmt(), chunk(b"data", data, 3 * frames))
+        for name, behind in (("its pad", b"\0"), ("another pad", b"\xa5"), ("no pad", b""), ("a note behind it", b"\0" + chunk(b"note", b"abc"))):
+            expect(f"{frames} frames with {name}", run(args, bare + behind), (want, b""))
+    data = samples(3, rng)
+    expect("odd data that breaks off", run(ZERO, riff(fmt(), chunk(b"data", data[:7], 9))), (file24(data[:6] + bytes(3)), b"short 2\n"))
 
 
 def kept_files(rng):
@@ -217,6 +235,8 @@ def kept_files(rng):
         data = source[start:start + length]
         if len(data) == length:
             expect(name, run(args, source), (equalised(args, data if bits == 24 else widened(data), channels, rate), b""))
+        if bits == 24 and name.startswith("sox-"):
+            expect(f"{name} given back", run(ZERO, source), (source, b""))
 
 
 def sixteen_bits(rng):
@@ -235,8 +255,11 @@ def two_sides(rng):
     for frames in (1, 904, 905, 906, 2047, 2049, 5001):
         args = settings(rng)
         left, right, silent = samples(frames, rng), samples(frames, rng), bytes(3 * frames)
-        alone = {side: run(args, file24(side))[0][44:] for side in (left, right)}
-        expect(f"{frames} frames, the left alone", (alone[left], b""), (reckon(args, left), b""))
+        alone = {}
+        for side in (left, right):
+            written, said = run(args, file24(side))
+            expect(f"{frames} frames, a side alone", (written, said), (equalised(args, side), b""))
+            alone[side] = written[44:44 + 3 * frames]
         alone[silent] = silent
         for name, first, second in (
             ("left and right", left, right),
@@ -251,16 +274,16 @@ def two_sides(rng):
 
 def short_data(rng):
     """Data that breaks off anywhere in a frame: of two channels the left sample may be wholly there and the right one not."""
-    for channels, frames in ((1, (0, 1, 3, 1365, 1366, 4096, 5000)), (2, (0, 1, 675, 1013, 2047, 2048, 5000))):
+    for channels, all_frames, frames in ((1, 6001, (0, 1, 3, 1365, 1366, 4096, 5000)), (2, 6000, (0, 1, 675, 1013, 2047, 2048, 5000))):
         for bits in (16, 24):
             size = bits // 8
             for whole in frames:
                 for part in range(channels * size):
                     there = rng.randbytes(channels * size * whole + part)
-                    said = channels * size * 6000
+                    said = channels * size * all_frames
                     source = riff(fmt(48000, bits, channels=channels), chunk(b"data", there, said))
                     full = [there[i:i + size] for i in range(0, len(there) - size + 1, size)]
-                    wide = b"".join(s if bits == 24 else b"\0" + s for s in full) + b"\0\0\0" * (6000 * channels - len(full))
+                    wide = b"".join(s if bits == 24 else b"\0" + s for s in full) + b"\0\0\0" * (all_frames * channels - len(full))
                     args = settings(rng)
                     want = (equalised(args, wide, channels), b"short %d\n" % (said - len(there)))
                     expect(f"{bits} bits short at {whole} frames of {channels} and {part} bytes", run(args, source), want)
@@ -274,7 +297,7 @@ def short_data(rng):
 
 def slow_pipe(rng):
     stereo = [(file24(samples(2 * frames, rng), channels=2), step) for frames, step in ((1, 1), (701, 1), (10001, 997))]
-    for source, step in ((WHOLE, 1), (file24(samples(700, rng)), 1), (file24(samples(20000, rng)), 997), *stereo):
+    for source, step in ((WHOLE, 1), (file24(samples(701, rng)), 1), (file24(samples(20001, rng)), 997), *stereo):
         child = subprocess.Popen([PROGRAM] + ZERO, stdin=subprocess.PIPE, stdout=subprocess.PIPE, stderr=subprocess.PIPE, bufsize=0)
         for i in range(0, len(source), step):
             child.stdin.write(source[i:i + step])
@@ -302,6 +325,14 @@ def output_fails(rng):
         said = child.stderr.read()
         child.wait(timeout=60)
         expect("a pipe that closes midway", (first, said), (source[:44], line + b"Broken pipe\n"))
+    # a file that may not grow by the pad: the last sample is written, and `short` is not said
+    odd = file24(samples(5, rng))
+    few = lambda: resource.setrlimit(resource.RLIMIT_FSIZE, (len(odd) - 1, len(odd) - 1))
+    with tempfile.TemporaryFile() as file:
+        cut = riff(fmt(), chunk(b"data", odd[44:58], 15))
+        said = subprocess.run([PROGRAM] + ZERO, input=cut, stdout=file, stderr=subprocess.PIPE, preexec_fn=few, restore_signals=False, timeout=60).stderr
+        file.seek(0)
+        expect("no room for the pad", (file.read(), said), (odd[:56] + bytes(3), line + b"File too large\n"))
 
 
 def memory_of(child):
@@ -353,6 +384,7 @@ def main():
         headers()
         longest()
         accepted_headers(rng)
+        odd_data(rng)
         kept_files(rng)
         sixteen_bits(rng)
         two_sides(rng)

@@ -13,9 +13,17 @@ SIDES = fmt(channels=2)
 TWO = WHOLE[44:]  # the samples 1 and -1, or a frame of both
 
 
-def filler(length):
-    """A file whose `data` header ends `length` bytes from its start, behind a chunk that is passed over."""
-    return riff(FMT, chunk(b"note", b"\x55" * (length - 36 - 8 - 8)), chunk(b"data", TWO))
+def note(length):
+    """A chunk that is passed over, with its pad."""
+    return chunk(b"note", b"\x55" * length)
+
+
+def bare(length):
+    """The same, with its pad forgotten."""
+    return chunk(b"note", b"\x55" * length, size=length)
+
+
+DATA = chunk(b"data", TWO)
 
 
 CASES = {
@@ -29,10 +37,22 @@ CASES = {
     "two-channels-data-size-0.wav": riff(SIDES, chunk(b"data", b"")),
     "two-channels-largest-written.wav": riff(SIDES, chunk(b"data", TWO, size=4294967256)),
     "two-channels-too-large-to-write.wav": riff(SIDES, chunk(b"data", TWO, size=4294967262)),
-    "one-channel-largest-written.wav": riff(FMT, chunk(b"data", TWO, size=4294967259)),
-    "one-channel-too-large-to-write.wav": riff(FMT, chunk(b"data", TWO, size=4294967262)),
-    "note-before.wav": riff(chunk(b"note", b"abc"), FMT, chunk(b"note", b""), chunk(b"data", TWO)),
-    "header-ends-at-4096.wav": filler(4096),
+    "one-channel-largest-written.wav": riff(FMT, chunk(b"data", TWO, size=4294967256)),
+    "one-channel-too-large-to-write.wav": riff(FMT, chunk(b"data", TWO, size=4294967259)),
+    "note-before.wav": riff(chunk(b"note", b"abc"), FMT, chunk(b"note", b""), DATA),
+    "header-ends-at-4096.wav": riff(FMT, note(4044), DATA),
+    # chunks of odd length, padded
+    "note-of-1-before-fmt.wav": riff(note(1), FMT, DATA),
+    "note-of-1-before-data.wav": riff(FMT, note(1), DATA),
+    "note-of-3-before-fmt.wav": riff(note(3), FMT, DATA),
+    "note-of-3-before-data.wav": riff(FMT, note(3), DATA),
+    "note-of-3-twice.wav": riff(note(3), FMT, note(3), DATA),
+    "note-of-4043-before-fmt.wav": riff(note(4043), FMT, DATA),
+    "note-of-4043-before-data.wav": riff(FMT, note(4043), DATA),
+    "note-with-a-pad-of-255.wav": riff(FMT, bare(3) + b"\xff", DATA),
+    "data-odd.wav": riff(FMT, chunk(b"data", TWO[:3])),
+    "data-odd-not-padded.wav": riff(FMT, chunk(b"data", TWO[:3], size=3)),
+    "data-odd-then-note.wav": riff(FMT, chunk(b"data", TWO[:3]), note(3)),
     # 21
     "21-empty.wav": b"",
     "21-eleven-bytes.wav": WHOLE[:11],
@@ -66,7 +86,22 @@ CASES = {
     "24-data-header.wav": WHOLE[:43],
     "24-chunk-past-32-bits.wav": riff(FMT, chunk(b"note", TWO, size=4294967295), chunk(b"data", TWO)),
     "24-chunk-of-2-to-31.wav": riff(FMT, chunk(b"note", TWO, size=2**31), chunk(b"data", TWO)),
-    "24-header-ends-at-4097.wav": filler(4097),
+    "24-header-ends-at-4098.wav": riff(FMT, note(4046), DATA),
+    # 24, chunks of odd length: the pad past the front, or forgotten
+    "24-note-of-4045-before-fmt.wav": riff(note(4045), FMT, DATA),
+    "24-note-of-4045-before-data.wav": riff(FMT, note(4045), DATA),
+    "24-note-of-4083-before-fmt.wav": riff(note(4083), FMT, DATA),
+    "24-note-of-4083-before-data.wav": riff(FMT, note(4083), DATA),
+    "24-note-of-4084-before-fmt.wav": riff(note(4084), FMT, DATA),
+    "24-note-of-4084-before-data.wav": riff(FMT, note(4084), DATA),
+    "24-note-cut-before-its-pad.wav": riff(FMT, bare(3)),
+    "24-note-cut-behind-its-pad.wav": riff(FMT, note(3)),
+    "24-note-of-1-not-padded-before-fmt.wav": riff(bare(1), FMT, DATA),
+    "24-note-of-1-not-padded-before-data.wav": riff(FMT, bare(1), DATA),
+    "24-note-of-3-not-padded-before-fmt.wav": riff(bare(3), FMT, DATA),
+    "24-note-of-3-not-padded-before-data.wav": riff(FMT, bare(3), DATA),
+    "24-note-not-padded-before-silence.wav": riff(FMT, bare(3), chunk(b"data", bytes(600))),
+    "24-pad-past-32-bits.wav": riff(FMT, chunk(b"note", b"", size=4294967295), DATA),
     # 25
     "25-part-of-24.wav": riff(FMT, chunk(b"data", TWO, size=5)),
     "25-part-of-16.wav": riff(fmt(bits=16), chunk(b"data", TWO, size=5)),

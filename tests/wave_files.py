@@ -5,6 +5,7 @@
 
 The edge cases have to be among them, and as wave_cases.py builds them."""
 import os
+import re
 import sys
 
 from model.wave import read, samples, write
@@ -16,6 +17,8 @@ ROOM, MOST = 8192, 8
 def show(name, data):
     """The reader on a file, its first samples that are there, and its header written again."""
     answer = read(data)
+    number = re.match(r"(\d\d)-", name)
+    assert not number or answer == int(number[1]), f"{name} is answered {answer}"
     if isinstance(answer, int):
         print(f"{name} refused {answer}")
         return

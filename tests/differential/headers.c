@@ -6,8 +6,11 @@
 
 enum { ROOM = 6000, FOUND = 5 };
 
-/* The RIFF size counts 36 bytes more, in 32 bits. */
-static const uint32_t largest = UINT32_MAX - 36;
+/* One byte follows contents of odd length. */
+static uint64_t padded(uint32_t size)
+{
+    return (uint64_t)size + (size & 1);
+}
 
 static uint32_t number_at(const uint8_t *s, size_t bytes)
 {
@@ -24,11 +27,14 @@ static int right_values(const uint8_t *fmt)
         && (bits == 16 || bits == 24) && block == channels * bits / 8 && number_at(fmt + 8, 4) == rate * block;
 }
 
+/* Fronts refused with a number; fronts accepted, by channels and bytes of a sample, and those with a chunk of odd length before `data`. */
+static long refused[32], accepted[3][4], passed;
+
 /* The refusal number, or 0 and what was found. */
 static int model_read(const uint8_t *front, size_t length, uint32_t found[FOUND])
 {
     uint64_t at = 12;
-    int have_format = 0;
+    int have_format = 0, odd = 0;
     if (length > 4096)
         length = 4096;
     if (length < 12 || memcmp(front, "RIFF", 4) != 0 || memcmp(front + 8, "WAVE", 4) != 0)
@@ -56,14 +62,13 @@ static int model_read(const uint8_t *front, size_t length, uint32_t found[FOUND]
                 return 25;
             found[2] = size;
             found[3] = (uint32_t)at + 8;
+            passed += odd;
             return 0;
         }
-        at += 8 + (uint64_t)size;
+        odd |= size & 1;
+        at += 8 + padded(size);
     }
 }
-
-/* Fronts refused with a number; fronts accepted, by channels and bytes of a sample. */
-static long refused[32], accepted[3][4];
 
 static void compare(const uint8_t *front, size_t length)
 {
@@ -117,19 +122,21 @@ static size_t put_data(uint8_t *s)
     return 4 + put_number(s + 4, size, 4);
 }
 
-/* A chunk that is passed over; now and then one that leads to the end of the front, or far beyond. */
+/* A chunk that is passed over, with its pad; now and then one that leads to the end of the front, or far beyond, or that lacks its pad. */
 static size_t put_other(uint8_t *s, size_t at)
 {
     static const char names[6][5] = {"LIST", "fact", "bext", "FMT ", "data", "fmt "};
     uint32_t size = random_below(60);
     memcpy(s, names[random_below(16) ? random_below(4) : random_below(6)], 4);
     switch (random_below(24)) {
-    case 0: size = (uint32_t)(4096 - at - 16 + random_below(12)); break;
+    case 0: size = (uint32_t)(4096 - at - 22 + random_below(18)); break;
     case 1: size = 0xffffffffu - random_below(40); break;
     case 2: size = 0x7ffffff0u + random_below(40); break;
     }
     put_number(s + 4, size, 4);
-    return size < 4096 ? 8 + size : 8;
+    if (size >= 4096)
+        return 8;
+    return 8 + (random_below(16) ? (size_t)padded(size) : size);
 }
 
 static size_t build(uint8_t *front)
@@ -167,7 +174,7 @@ static int model_write(size_t length, uint32_t rate, uint32_t size, int32_t chan
         return 28;
     if (channels != 1 && channels != 2)
         return 9;
-    return size % (3 * (uint32_t)channels) != 0 || size > largest ? 26 : 0;
+    return size % (3 * (uint32_t)channels) != 0 || padded(size) + 36 > UINT32_MAX ? 26 : 0;
 }
 
 /* The writer with a buffer of so many bytes, against the model; an accepted header is read back. */
@@ -185,7 +192,7 @@ static void write_one(size_t length, uint32_t rate, uint32_t size, int32_t chann
         uint32_t frame = 3 * (uint32_t)channels;
         CHECK(answer == 44, "answered %lld", (long long)answer);
         memcpy(expected, "RIFF\0\0\0\0WAVEfmt \20\0\0\0\1\0", 22);
-        put_number(expected + 4, size + 36, 4);
+        put_number(expected + 4, (uint32_t)padded(size) + 36, 4);
         put_number(expected + 22, (uint32_t)channels, 2);
         put_number(expected + 24, rate, 4);
         put_number(expected + 28, rate * frame, 4);
@@ -217,10 +224,9 @@ static void writer_faults(void)
         for (int32_t channels = 1; channels <= 2; channels++)
             write_one(44, 48000, size, channels);
     uint8_t buffer[44];
-    CHECK(oeq_wave_write(buffer, 44, 48000, 4294967259u, 1) == 44 && oeq_wave_write(buffer, 44, 48000, 4294967256u, 2) == 44, "the largest");
-    IS_REFUSAL(oeq_wave_write(buffer, 44, 48000, 4294967262u, 1), 26);
+    CHECK(oeq_wave_write(buffer, 44, 48000, 4294967256u, 1) == 44 && oeq_wave_write(buffer, 44, 48000, 4294967256u, 2) == 44, "the largest");
+    IS_REFUSAL(oeq_wave_write(buffer, 44, 48000, 4294967259u, 1), 26);
     IS_REFUSAL(oeq_wave_write(buffer, 44, 48000, 4294967262u, 2), 26);
-    IS_REFUSAL(oeq_wave_write(buffer, 44, 48000, 4294967259u, 2), 26);
 }
 
 static void writer(int rounds)
@@ -232,7 +238,7 @@ static void writer(int rounds)
         if (random_bits() & 1)
             size -= size % 6;
         if (random_below(8) == 0)
-            size = largest - 4 + random_below(41);
+            size = UINT32_MAX - random_below(80);
         write_one(random_below(4) ? 44 : random_below(49), rate, size,
                   random_below(4) ? 1 + (int32_t)random_below(2) : outside_channels[random_below(9)]);
     }
@@ -252,6 +258,7 @@ void headers(int rounds)
     }
     for (int number = 21; number <= 25; number++)
         CHECK(refused[number] > 0, "no front was refused %d", number);
+    CHECK(passed > 0, "no chunk of odd length was passed over");
     for (int channels = 1; channels <= 2; channels++)
         for (int bytes = 2; bytes <= 3; bytes++)
             CHECK(accepted[channels][bytes] > 0, "no front of %d channels, %d bytes a sample was accepted", channels, bytes);

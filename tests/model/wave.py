@@ -2,15 +2,16 @@
 import struct
 
 RATES = (44100, 48000)
-LARGEST = 2**32 - 1 - 36  # the RIFF size counts 36 bytes more, in 32 bits
 
 
 # ---- the builder: each part may be made wrong
 
 
 def chunk(name, contents, size=None):
-    """A chunk, with the length of its contents or another."""
-    return name + struct.pack("<I", len(contents) if size is None else size) + contents
+    """A chunk and its pad; or one that states a length, and nothing behind its contents."""
+    if size is None:
+        return chunk(name, contents, len(contents)) + b"\0" * (len(contents) % 2)
+    return name + struct.pack("<I", size) + contents
 
 
 def fmt(rate=48000, bits=24, tag=1, channels=1, block=None, byte_rate=None):
@@ -81,7 +82,15 @@ def read(lent):
             if size % (channels * bits // 8):
                 return 25
             return (rate, bits, size, at + 8, channels)
-        at += 8 + size
+        at += 8 + size + size % 2
+
+
+def riff_size(length):
+    """The RIFF size of a file of so many bytes of 24-bit samples: the pad counts."""
+    return length + 36 + length % 2
+
+
+LARGEST = max(n for n in range(2**32 - 100, 2**32) if riff_size(n) < 2**32)
 
 
 def write(room, rate, length, channels):
@@ -92,9 +101,9 @@ def write(room, rate, length, channels):
         return 28
     if channels not in (1, 2):
         return 9
-    if length % (3 * channels) or length > LARGEST:
+    if length % (3 * channels) or riff_size(length) >= 2**32:
         return 26
-    return riff(fmt(rate, channels=channels), chunk(b"data", b"", length), size=length + 36)
+    return riff(fmt(rate, channels=channels), chunk(b"data", b"", length), size=riff_size(length))
 
 
 # ---- the codec
