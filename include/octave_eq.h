@@ -69,7 +69,7 @@ enum {
     OEQ_WRONG_FORMAT = 23,   /* `fmt ` of another length, with a wrong value, or a second one */
     OEQ_CUT_OFF = 24,        /* a chunk header, or the contents of `fmt `, not wholly in the front */
     OEQ_PART_SAMPLE = 25,    /* `data` length is not a multiple of the block size: not whole frames */
-    OEQ_WRITE_LENGTH = 26,   /* length not a multiple of 3 * channels, or above 4,294,967,259 */
+    OEQ_WRITE_LENGTH = 26,   /* length not a multiple of 3 * channels, or above 4,294,967,256 */
     OEQ_WRITE_BUFFER = 27,   /* buffer not 44 bytes */
     OEQ_WRITE_RATE = 28,     /* rate neither 44,100 nor 48,000 */
     OEQ_KEPT_COUNTS = 31,    /* memory too short to hold its counts, or one of them not allowed */
@@ -178,6 +178,8 @@ int64_t oeq_gain_off(void);
  *           found[2] length of the samples in bytes; found[3] where they start, in bytes from the front's first;
  *           found[4] channels, 1 or 2
  *
+ * Other chunks are passed over, each odd one with the pad byte behind it.
+ *
  * Returns 5, the number of places written.
  * Refuses: 21 front under 12 bytes or names wrong; then, as the chunks come: 22 `data` before any `fmt `; 23 `fmt ` of
  * another length than 16, with a wrong value, or a second one (right are tag 1, the channels, rates and bits above, a
@@ -191,9 +193,11 @@ int64_t oeq_wave_read(const uint8_t *front, size_t front_length, uint32_t *found
  *
  *   buffer     44 bytes
  *   rate       44,100 or 48,000 Hz
- *   length     of the samples in bytes, a multiple of 3 * channels, at most 4,294,967,259: so of two channels at most
- *              4,294,967,256
+ *   length     of the samples in bytes, a multiple of 3 * channels, at most 4,294,967,256
  *   channels   1 or 2
+ *
+ * The samples follow. An odd length wants one zero byte behind the last sample: the header's RIFF size counts this pad,
+ * its `data` length does not.
  *
  * Returns 44, the number of bytes written.
  * Refuses: 27 buffer not 44 bytes; 28 rate neither of the two; 9 channel count not 1 or 2; 26 length not a multiple of
