@@ -8,7 +8,7 @@ ghost use Rattle.chunks.specs.Walk.{headerLength, padding, next};
 // A chunk's header: its name and the length of its contents.
 pub const HEADER_LENGTH: usize = 8;
 
-// How many bytes follow contents of odd length that their length does not count.
+// How many pad bytes follow contents of a length, which it does not count: one if it is odd.
 pub fn padding(size: usize) -> usize
     ensures { λ r. ⌜ r ≡ padding size ⌝ }
 {
