@@ -19,6 +19,7 @@ PROGRAM = os.path.join(TOP, "eqwave")
 BUILT = os.path.join(TOP, "target", "bin", "eqwave")
 STORED = os.path.join(TOP, "crates", "eqwave")
 FILES = os.path.join(TOP, "tests", "files")
+EXAMPLE = os.path.join(TOP, "examples", "chirp.wav")
 ZERO = ["0"] * 8
 SIDES = (1, 2)
 LONG_SECONDS = 300  # of one channel; half as long of two
@@ -107,6 +108,16 @@ def models_agree(rng):
 
 def whole_case():
     expect("the 50 bytes", run(ZERO, WHOLE), (WHOLE, b""))
+
+
+def example():
+    """The example's two commands."""
+    with open(EXAMPLE, "rb") as file:
+        source = file.read()
+    rate, bits, length, start, channels = read(source)
+    args = "12 6 0 0 0 0 -6 -12".split()
+    expect("the example given back", run(ZERO, source), (source, b""))
+    expect("the example, warm", run(args, source), (equalised(args, source[start:start + length], channels, rate), b""))
 
 
 def zero_gives_back(rng):
@@ -378,6 +389,7 @@ def main():
         models_agree(rng)
         stored_run(False)
         whole_case()
+        example()
         zero_gives_back(rng)
         arguments()
         argument_values(rng)
