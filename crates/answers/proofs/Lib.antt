@@ -1,3 +1,4 @@
 pub mod Branches
+pub mod Firsts
 pub mod Laws
 pub mod Ranges

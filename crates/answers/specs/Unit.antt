@@ -1,5 +1,5 @@
 -- The unit's numbers, each named once (src/unit.rt has the same names for the code).
-use Prim.Native.Nat.{ℕ}
+use Prim.Native.Nat.{ℕ, _*_}
 use lib.IntN.{ℤ, pos, negsuc}
 
 -- rule 1.3: the least and the largest number of bands
@@ -49,6 +49,14 @@ unity = 4096
 -- rule 1.4: the most frames of a block
 abbrev pub blockLimit : ℕ
 blockLimit = 4096
+
+-- rule 10.10: the most frames that the program feeds in one block
+abbrev pub turnLimit : ℕ
+turnLimit = 256
+
+-- rule 10.17: .. and their samples, with two channels
+abbrev pub turnRoom : ℕ
+turnRoom = 2 * turnLimit
 
 -- rule 8.2: the most bytes that a header's reader looks at
 abbrev pub frontLength : ℕ

@@ -16,6 +16,10 @@ pub const LARGEST_GAIN: i32 = 16384;
 pub const UNITY: i64 = 4096;
 // The most frames of a block.
 pub const BLOCK_LIMIT: usize = 4096;
+// The most frames that the program feeds in one block.
+pub const TURN_LIMIT: usize = 256;
+// .. and their samples, with two channels.
+pub const TURN_ROOM: usize = 2 * TURN_LIMIT;
 // The most bytes that a header's reader looks at.
 pub const FRONT_LENGTH: usize = 4096;
 // The most bytes of samples that a header states.

@@ -17,7 +17,7 @@ use Rattle.tree.specs.Exact.{commonScale, exactLevel, exactOutput, farthest}
 use Rattle.tree.specs.Gains.{AllowedGains}
 use Rattle.answers.specs.Answer.{accepted, numberIn}
 use Rattle.answers.specs.Checks.{allHold, Outcome, decide, Done}
-use Rattle.answers.specs.Range.{firstOutside}
+use Rattle.answers.specs.First.{firstFailing}
 use Rattle.ring.specs.Line.{tap, lineSum, lowValue, lateValue}
 use Rattle.lines.specs.Cascade.{step, run}
 use Rattle.frames.specs.Frames.{side, frame, woven, behind}
@@ -39,7 +39,7 @@ high-alone = pos 0 ∷ pos unity ∷ []
 -- ---- refuse everything: a call without a fault is not refused
 
 pub refuse-everything : (r : Blocked) (l : List ℤ × List ℤ) → (numberIn (blockAnswer r) ≡ 0 → ⊥) → Done (blockOf (prepared 2 1) low-alone [] []) r l → ⊥
-unfolding decide allHold firstOutside run side woven frame behind
+unfolding decide allHold firstFailing run side woven frame behind
 refuse-everything r l n d = n (ap (λ (q : Blocked). numberIn (blockAnswer q)) (d .result-is))
 
 -- ---- all zeros, or the delayed input for any gains: unequal gains tell them
@@ -79,7 +79,7 @@ delayed-input near =
 -- ---- touch nothing: the first output of 100,000 is 313, and not what the output block held
 
 pub touch-nothing : Done (blockOf (prepared 2 1) low-alone (pos 100000 ∷ []) (pos 0 ∷ [])) (Written 1) (prepared 2 1, pos 0 ∷ []) → ⊥
-unfolding decide allHold firstOutside run step lowValue lateValue lineSum tap sum outputs bandSum side woven frame behind
+unfolding decide allHold firstFailing run step lowValue lateValue lineSum tap sum outputs bandSum side woven frame behind
 touch-nothing d = let h : _≡_ {A = ℕ} 0 313 = ap (λ (l : List ℤ × List ℤ). natAbs (getD (l .1) 0 (pos 0))) (d .lent-is) in omega arith
 
 -- ---- filter the first block, then pass samples through: silence after 100,000 is answered by -1,338 at 2
@@ -89,7 +89,7 @@ abbrev filtered : List ℤ
 filtered = blockOf (prepared 2 1) low-alone (pos 100000 ∷ []) (pos 0 ∷ []) .lent .0
 
 pub pass-through : (m : List ℤ) → Done (blockOf filtered low-alone (pos 0 ∷ pos 0 ∷ []) (pos 0 ∷ pos 0 ∷ [])) (Written 2) (m, pos 0 ∷ pos 0 ∷ []) → ⊥
-unfolding decide allHold firstOutside run step lowValue lateValue lineSum tap sum outputs bandSum side woven frame behind
+unfolding decide allHold firstFailing run step lowValue lateValue lineSum tap sum outputs bandSum side woven frame behind
 pass-through m d = let h : _≡_ {A = ℕ} 0 1338 = ap (λ (l : List ℤ × List ℤ). natAbs (getD (l .1) 1 (pos 0))) (d .lent-is) in omega arith
 
 -- ---- invent the number of frames written: it is that of the block, for all inputs
