@@ -1,0 +1,16 @@
+pub mod Agree
+pub mod Back
+pub mod Ends
+pub mod Finding
+pub mod InRange
+pub mod Ladder
+pub mod NoNumber
+pub mod OneAnswer
+pub mod Quotients
+pub mod Readings
+pub mod Refusals
+pub mod Rounded
+pub mod Shift
+pub mod Singles
+pub mod Taking
+pub mod ToFloat
