@@ -7,6 +7,7 @@ use native.Mathlib.Omega.{arith}
 use lib.ListN.{length, take, drop}
 use lib.Seq.{sets, take-all}
 use lib.IntN.{ℤ, pos, negℤ, _*ℤ_}
+use lib.Ieee.{binary32, ofBits}
 use borrow.Author.Tests.{lt-ltb, le-ltb, eq-eqb, ne-eqb}
 use mir.Syntax.{w32}
 use mir.Val.{SFits, toZ, ofZ}
@@ -17,11 +18,13 @@ use Rattle.answers.specs.Unit.{leastSample, mostSample}
 use Rattle.fields.specs.Bytes.{lowest, field, row}
 use Rattle.fields.proofs.ByTest.{by-order}
 use Rattle.fields.proofs.Rows.{length-row, sets-whole}
+use Rattle.floats.specs.Value.{floatSample}
+use Rattle.floats.specs.Block.{sampleOr0}
 use Rattle.samples.specs.Sample.{numberOf, codeOf, sampleIn, fromBytes, toBytes}
 use Rattle.samples.specs.Samples.{bytesOf, blockTo}
 use Rattle.samples.specs.Format.{sizeOf}
 use Rattle.samples.specs.declared.format.Format.{Format}
-use Rattle.samples.specs.declared.format.Format.the-variants.{Bits16, Bits24}
+use Rattle.samples.specs.declared.format.Format.the-variants.{Bits16, Bits24, Float32}
 use Rattle.samples.specs.declared.single.Sample.the-variants as sample
 use Rattle.samples.specs.declared.single.Put.the-variants as put
 use Rattle.samples.specs.declared.block.Stored.the-variants as stored
@@ -57,16 +60,22 @@ pub taken-24 : (s : List ℕ) (at n : ℕ) → n ≡ field lowest s at 3 → num
 unfolding sampleIn field
 taken-24 s at n e = ap (numberOf 24) e
 
+-- the sample that four bytes at a place hold
+pub taken-float : (s : List ℕ) (at n : ℕ) → n ≡ field lowest s at 4 → sampleOr0 (floatSample (ofBits binary32 n)) ≡ sampleIn Float32 (take 4 (drop at s))
+unfolding sampleIn field
+taken-float s at n e = ap (λ (m : ℕ). sampleOr0 (floatSample (ofBits binary32 m))) e
+
 -- ---- the calls where they accept
 
-pub from-whole : (format : Format) (s : List ℕ) → length s ≡ sizeOf format → fromBytes s ≡ sample.Is (sampleIn format s)
+pub from-whole : (format : Format) (s : List ℕ) → sizeOf format < 4 → length s ≡ sizeOf format → fromBytes s ≡ sample.Is (sampleIn format s)
 unfolding fromBytes
-from-whole Bits16 s h = rw (eq-eqb (length s) 2 h)
-from-whole Bits24 s h = rw (ne-eqb (length s) 2 (λ two. omega arith), eq-eqb (length s) 3 h)
+from-whole Bits16 s few h = rw (eq-eqb (length s) 2 h)
+from-whole Bits24 s few h = rw (ne-eqb (length s) 2 (λ two. omega arith), eq-eqb (length s) 3 h)
+from-whole Float32 s few h = absurd (omega arith)
 
-pub from-at : (format : Format) (s : List ℕ) (z : ℤ) → length s ≡ sizeOf format → z ≡ sampleIn format (take (sizeOf format) s) → sample.Is z ≡ fromBytes s
-from-at format s z h e =
-    ap sample.Is (e ∙ ap (sampleIn format) (take-all (sizeOf format) s (omega arith))) ∙ sym (from-whole format s h)
+pub from-at : (format : Format) (s : List ℕ) (z : ℤ) → sizeOf format < 4 → length s ≡ sizeOf format → z ≡ sampleIn format (take (sizeOf format) s) → sample.Is z ≡ fromBytes s
+from-at format s z few h e =
+    ap sample.Is (e ∙ ap (sampleIn format) (take-all (sizeOf format) s (omega arith))) ∙ sym (from-whole format s few h)
 
 pub to-three : (z : ℤ) (s : List ℕ) → length s ≡ 3 → within leastSample mostSample z ≡ true →
     toBytes z s ≡ record { result = put.Done 3; lent = row lowest 3 (codeOf z) }

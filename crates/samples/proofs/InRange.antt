@@ -6,24 +6,27 @@ use Prim.Native.Nat.{ℕ, zero, suc, _+_, _*_, _<_, _≤_}
 use native.Mathlib.Omega.{arith}
 use lib.ListN.{length, take, drop, length-take}
 use lib.IntN.{ℤ}
-use Rattle.answers.specs.Range.{within, firstOutside, allWithin}
+use lib.Ieee.{binary32, ofBits}
+use Rattle.answers.specs.First.{firstFailing}
+use Rattle.answers.specs.Range.{within, allWithin}
 use Rattle.answers.specs.Unit.{leastSample, mostSample}
 use Rattle.answers.proofs.Ranges.{all-cons, cons-all}
 use Rattle.fields.specs.Bytes.{Bytes, lowest, numberIn}
 use Rattle.fields.proofs.Numbers.{bytes-take, bytes-drop}
 use Rattle.fields.proofs.Rows.{number-in-below}
+use Rattle.floats.proofs.InRange.{float-within}
 use Rattle.samples.specs.Sample.{sampleIn}
 use Rattle.samples.specs.Samples.{samplesOf}
 use Rattle.samples.specs.Format.{sizeOf}
 use Rattle.samples.specs.declared.format.Format.{Format}
-use Rattle.samples.specs.declared.format.Format.the-variants.{Bits16, Bits24}
+use Rattle.samples.specs.declared.format.Format.the-variants.{Bits16, Bits24, Float32}
 use Rattle.samples.proofs.Codec.{times-256}
 use Rattle.samples.proofs.Complement.{number-in-range}
 
 -- ---- ranges of lists
 
 none-within : (lo hi : ℤ) → allWithin lo hi [] ≡ true
-unfolding firstOutside
+unfolding firstFailing
 none-within lo hi = refl
 
 pub all-append : (lo hi : ℤ) (s t : List ℤ) → allWithin lo hi s ≡ true → allWithin lo hi t ≡ true → allWithin lo hi (s ++ t) ≡ true
@@ -38,6 +41,7 @@ sample-in-range Bits16 s bytes h =
     let small : numberIn lowest s < 65536 = number-in-below lowest 2 s bytes h in
     ap (within leastSample mostSample) (times-256 (numberIn lowest s) small) ∙ number-in-range (256 * numberIn lowest s) (omega arith)
 sample-in-range Bits24 s bytes h = number-in-range (numberIn lowest s) (number-in-below lowest 3 s bytes h)
+sample-in-range Float32 s bytes h = float-within (ofBits binary32 (numberIn lowest s))
 
 -- .. of a block
 pub samples-in-range : (n : ℕ) (format : Format) (s : List ℕ) → Bytes s → allWithin leastSample mostSample (samplesOf n format s) ≡ true

@@ -30,7 +30,7 @@ pub sample-bytes-sample : (z : ℤ) (buffer : List ℕ) → within leastSample m
 unfolding sampleIn
 sample-bytes-sample z buffer range three =
     ap (λ (o : Outcome Put (List ℕ)). fromBytes (o .lent)) (to-three z buffer three range)
-    ∙ from-whole Bits24 (row lowest 3 (codeOf z)) (length-row lowest 3 (codeOf z)) ∙ ap sample.Is (number-back z range)
+    ∙ from-whole Bits24 (row lowest 3 (codeOf z)) (omega arith) (length-row lowest 3 (codeOf z)) ∙ ap sample.Is (number-back z range)
 
 -- every three bytes to a sample and back are themselves
 pub same-bytes : (s : List ℕ) → length s ≡ 3 → Bytes s → row lowest 3 (codeOf (sampleIn Bits24 s)) ≡ s
@@ -43,7 +43,7 @@ same-bytes s three bytes =
 pub bytes-sample-bytes : (s buffer : List ℕ) → length s ≡ 3 → Bytes s → length buffer ≡ 3 →
     (fromBytes s ≡ sample.Is (sampleIn Bits24 s)) × (toBytes (sampleIn Bits24 s) buffer ≡ record { result = put.Done 3; lent = s })
 bytes-sample-bytes s buffer three bytes room = (
-  from-whole Bits24 s three,
+  from-whole Bits24 s (omega arith) three,
   to-three (sampleIn Bits24 s) buffer room (sample-in-range Bits24 s bytes (omega arith))
       ∙ ap (λ (t : List ℕ). record { result = put.Done 3; lent = t }) (same-bytes s three bytes),
 )

@@ -18,7 +18,7 @@ use Rattle.samples.specs.Sample.{numberOf, codeOf, sampleIn, fromBytes, 
 use Rattle.samples.specs.Samples.{samplesOf, bytesOf}
 use Rattle.samples.specs.Format.{sizeOf}
 use Rattle.samples.specs.declared.format.Format.{Format}
-use Rattle.samples.specs.declared.format.Format.the-variants.{Bits16, Bits24}
+use Rattle.samples.specs.declared.format.Format.the-variants.{Bits16, Bits24, Float32}
 use Rattle.samples.specs.declared.single.Put.the-variants.{Done}
 use Rattle.samples.specs.declared.single.Sample.the-variants.{Is}
 use Rattle.samples.proofs.Codec.{from-whole, to-three}
@@ -26,16 +26,17 @@ use Rattle.samples.proofs.Taking.{samples-at}
 use Rattle.samples.proofs.RoundTrips.{number-back, same-bytes}
 
 -- sample i of a block is the single call's on the bytes at its place
-pub from-singles : (n : ℕ) (format : Format) (s : List ℕ) (i : ℕ) → i < n → sizeOf format * n ≤ length s →
+pub from-singles : (n : ℕ) (format : Format) (s : List ℕ) (i : ℕ) → sizeOf format < 4 → i < n → sizeOf format * n ≤ length s →
     fromBytes (take (sizeOf format) (drop (sizeOf format * i) s)) ≡ Is (getD (samplesOf n format s) i (pos 0))
-from-singles n format s i h room =
-    from-whole format (take (sizeOf format) (drop (sizeOf format * i) s))
+from-singles n format s i few h room =
+    from-whole format (take (sizeOf format) (drop (sizeOf format * i) s)) few
     (length-take-le (sizeOf format) (drop (sizeOf format * i) s) (left format n i (length s) h room (length-drop (sizeOf format * i) s)))
     ∙ ap Is (sym (samples-at n format s i h))
   where
     left : (f : Format) (m j k : ℕ) → j < m → sizeOf f * m ≤ k → {l : ℕ} → l ≡ k - sizeOf f * j → sizeOf f ≤ l
     left Bits16 m j k a b e = omega arith
     left Bits24 m j k a b e = omega arith
+    left Float32 m j k a b e = omega arith
 
 -- the bytes at a sample's place are the sample's
 bytes-at : (samples : List ℤ) (i : ℕ) → i < length samples → take 3 (drop (3 * i) (bytesOf samples)) ≡ row lowest 3 (codeOf (getD samples i (pos 0)))

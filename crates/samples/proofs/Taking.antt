@@ -1,5 +1,6 @@
 -- Bytes to samples by the block: the laws of `samplesOf`, and what a turn of the loop keeps. Assumes nothing.
 use mathlib.Core.Path.{_≡_, refl, sym, ap, _∙_, subst}
+use mathlib.Core.Bool.{true}
 use mathlib.Core.List.{List, [], _∷_, _++_, append-nil}
 use Prim.Native.Nat.{ℕ, zero, suc, _+_, _*_, _/_, _%_, _<_, _≤_}
 use native.Mathlib.Nat.{le-of-suc-le-suc, not-suc-le-zero, mul-zero, add-zero, div-add-mod, mul-le-mul}
@@ -8,8 +9,11 @@ use native.Mathlib.Omega.{arith}
 use lib.ListN.{length, getD, take, drop, set, length-set, drop-of-length-le}
 use lib.Seq.{take-all, drop-drop}
 use lib.IntN.{ℤ, pos}
+use borrow.Author.Tests.{eq-eqb}
+use Rattle.answers.specs.Checks.{decide, Done}
 use Rattle.samples.specs.Sample.{sampleIn}
-use Rattle.samples.specs.Samples.{samplesOf}
+use Rattle.samples.specs.Samples.{samplesOf, allSamples, blockFrom}
+use Rattle.samples.specs.declared.block.Taken.the-variants.{Samples}
 use Rattle.samples.specs.Format.{sizeOf}
 use Rattle.samples.specs.declared.format.Format.{Format}
 
@@ -88,3 +92,12 @@ whole-is n m size k e r q =
 -- one sample more has its bytes
 pub room : (k i m n at : ℕ) → at ≡ k * i → i < m → n ≡ k * m → at + k ≤ n
 room k i m n at e h f = let l : k * (i + 1) ≤ k * m = mul-le-mul (omega arith) (omega arith) in omega arith
+
+-- where every check holds, the call answers its samples
+pub all-taken : (s : List ℕ) (format : Format) (samples last : List ℤ) (size : ℕ) → size ≡ sizeOf format → length s % size ≡ 0 → length samples ≡ length s / size →
+    allSamples (length samples) format s ≡ true → length last ≡ length samples → last ≡ samplesOf (length samples) format s → Done (blockFrom s format samples) (Samples (length last)) last
+unfolding blockFrom decide
+all-taken s format samples last size is rest count good long e =
+    let r : length s % sizeOf format ≡ 0 = ap (λ (k : ℕ). length s % k) (sym is) ∙ rest in
+    let c : length samples ≡ length s / sizeOf format = count ∙ ap (λ (k : ℕ). length s / k) is in
+    rw (eq-eqb (length s % sizeOf format) 0 r, eq-eqb (length samples) (length s / sizeOf format) c, good) (record { result-is = ap Samples long; lent-is = e })

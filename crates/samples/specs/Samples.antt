@@ -1,15 +1,17 @@
 -- The sample codec by the block, over the single calls' `sampleIn` and `codeOf`.
 use Prim.Native.Nat.{ℕ, zero, suc, _*_, _/_, _%_}
+use mathlib.Core.Bool.{Bool}
 use mathlib.Core.List.{List, [], _∷_, _++_}
 use lib.ListN.{length, take, drop}
 use lib.IntN.{ℤ}
-use lib.Dec.{eqb}
+use lib.Dec.{eqb, leb}
 use Rattle.answers.specs.Answer.{Answer, accepted, refused}
 use Rattle.answers.specs.Checks.{Check, check, Outcome, decide}
+use Rattle.answers.specs.First.{firstFailing}
 use Rattle.answers.specs.Range.{allWithin}
 use Rattle.answers.specs.Unit.{leastSample, mostSample}
 use Rattle.fields.specs.Bytes.{lowest, row}
-use Rattle.samples.specs.Sample.{codeOf, sampleIn}
+use Rattle.samples.specs.Sample.{codeOf, isSampleIn, sampleIn}
 use Rattle.samples.specs.Format.{sizeOf}
 use Rattle.samples.specs.declared.format.Format.{Format}
 use Rattle.samples.specs.declared.block.Taken.{Taken}
@@ -22,16 +24,30 @@ unfoldable pub samplesOf : ℕ → Format → List ℕ → List ℤ
 samplesOf zero format s = []
 samplesOf (suc n) format s = sampleIn format (take (sizeOf format) s) ∷ samplesOf n format (drop (sizeOf format) s)
 
+-- rule 9.5: n runs of so many bytes
+unfoldable pub piecesOf : ℕ → (size : ℕ) → List ℕ → List (List ℕ)
+piecesOf zero size s = []
+piecesOf (suc n) size s = take size s ∷ piecesOf n size (drop size s)
+
+-- rule 9.9: the place of the first of n that is no sample, in samples; n where all are
+abbrev pub firstBad : ℕ → Format → List ℕ → ℕ
+firstBad n format s = firstFailing (isSampleIn format) (piecesOf n (sizeOf format) s)
+
+-- rule 9.9: each of n is a sample
+abbrev pub allSamples : ℕ → Format → List ℕ → Bool
+allSamples n format s = leb n (firstBad n format s)
+
 -- rule 9.6: the bytes of samples, three of each
 unfoldable pub bytesOf : List ℤ → List ℕ
 bytesOf [] = []
 bytesOf (z ∷ samples) = row lowest 3 (codeOf z) ++ bytesOf samples
 
--- rule 6.8: the checks of `bytes_to_samples`: whole samples, and an output as long as their number
+-- rule 6.8: the checks of `bytes_to_samples`: whole samples, an output as long as their number, and no float that is no number
 abbrev pub takenChecks : List ℕ → Format → List ℤ → List (Check Taken)
 takenChecks s format samples =
     check (eqb (length s % sizeOf format) 0) taken.PartSample ∷
-    check (eqb (length samples) (length s / sizeOf format)) taken.WrongLength ∷ []
+    check (eqb (length samples) (length s / sizeOf format)) taken.WrongLength ∷
+    check (allSamples (length samples) format s) (taken.NotNumber (firstBad (length samples) format s)) ∷ []
 
 -- rule 9.5: `bytes_to_samples`, with the samples afterwards
 unfoldable pub blockFrom : List ℕ → Format → List ℤ → Outcome Taken (List ℤ)
@@ -53,6 +69,7 @@ abbrev pub takenAnswer : Taken → Answer ℕ
 takenAnswer (taken.Samples n) = accepted n
 takenAnswer taken.PartSample = refused 18 0
 takenAnswer taken.WrongLength = refused 6 0
+takenAnswer (taken.NotNumber i) = refused 41 i
 
 -- rule 6.8: numbers and values for `Stored`
 abbrev pub storedAnswer : Stored → Answer ℕ

@@ -6,7 +6,10 @@ use crate::single::sample_at;
 use answers::range::first_outside;
 use answers::unit::LEAST_SAMPLE;
 use answers::unit::MOST_SAMPLE;
+use fields::lowest::four;
 use fields::lowest::put_three;
+use floats::is_sample;
+use floats::sample_of_code;
 ghost use mathlib.Core.Path.{_≡_};
 ghost use mathlib.Core.Bool.{true};
 ghost use Prim.Native.Nat.{_*_};
@@ -14,8 +17,9 @@ ghost use lib.ListN.{length};
 ghost use Rattle.answers.specs.Checks.{Done};
 ghost use Rattle.answers.specs.Range.{allWithin};
 ghost use Rattle.answers.specs.Unit.{leastSample, mostSample};
-ghost use Rattle.samples.specs.Samples.{samplesOf, blockFrom, bytesOf, blockTo};
+ghost use Rattle.samples.specs.Samples.{samplesOf, firstBad, blockFrom, bytesOf, blockTo};
 ghost use Rattle.samples.specs.Format.{sizeOf};
+ghost use Rattle.samples.specs.declared.format.Format.the-variants.{Float32};
 
 // What `bytes_to_samples` answers.
 pub enum Taken {
@@ -25,6 +29,8 @@ pub enum Taken {
     PartSample,
     // 6: the output's length is not the number of samples.
     WrongLength,
+    // 41: a float that is a NaN or an infinity; the first one's place, in samples.
+    NotNumber(usize),
 }
 
 // What `samples_to_bytes` answers.
@@ -35,6 +41,33 @@ pub enum Stored {
     WrongLength,
     // 19: a number is out of range.
     OutOfRange,
+}
+
+// The place of the first of so many floats that is no number, their number where none is.
+fn first_bad_float(bytes: &[u8], count: usize) -> usize
+    requires { ⌜ length (now bytes) ≡ 4 * count ⌝ }
+    ensures { λ r. ⌜ r ≡ firstBad count Float32 (now (bytes .entry)) ⌝ }
+{
+    let mut i = 0;
+    while i < count {
+        if !is_sample(sample_of_code(four(bytes, 4 * i))) {
+            return i;
+        }
+        i += 1;
+    }
+    i
+}
+
+// The same of any format: only a float can be no number.
+fn first_bad(bytes: &[u8], format: Format, count: usize) -> usize
+    requires { ⌜ length (now bytes) ≡ sizeOf format * count ⌝ }
+    ensures { λ r. ⌜ r ≡ firstBad count format (now (bytes .entry)) ⌝ }
+{
+    match format {
+        Format::Bits16 => count,
+        Format::Bits24 => count,
+        Format::Float32 => first_bad_float(bytes, count),
+    }
 }
 
 fn take_all(bytes: &[u8], format: Format, samples: &mut [i32])
@@ -61,6 +94,10 @@ pub fn bytes_to_samples(bytes: &[u8], format: Format, samples: &mut [i32]) -> Ta
     }
     if samples.len() != bytes.len() / size {
         return Taken::WrongLength;
+    }
+    let bad = first_bad(bytes, format, samples.len());
+    if bad < samples.len() {
+        return Taken::NotNumber(bad);
     }
     take_all(bytes, format, samples);
     Taken::Samples(samples.len())

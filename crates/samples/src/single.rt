@@ -5,9 +5,12 @@ use crate::format::Format;
 use answers::range::within;
 use answers::unit::LEAST_SAMPLE;
 use answers::unit::MOST_SAMPLE;
+use fields::lowest::four;
 use fields::lowest::put_three;
 use fields::lowest::three;
 use fields::lowest::two;
+use floats::sample_of_code;
+use floats::sample_or_0;
 ghost use mathlib.Core.Path.{_≡_};
 ghost use Prim.Native.Nat.{_+_, _≤_};
 ghost use lib.ListN.{length, take, drop};
@@ -40,6 +43,7 @@ pub(crate) fn sample_at(bytes: &[u8], at: usize, format: Format) -> i32
     match format {
         Format::Bits16 => number(256 * two(bytes, at)),
         Format::Bits24 => number(three(bytes, at)),
+        Format::Float32 => sample_or_0(sample_of_code(four(bytes, at))),
     }
 }
 

@@ -1,5 +1,5 @@
 -- What stands after the `data` header does not matter: once the walk comes to it, the bytes up to its end decide the answer. Assumes nothing.
-use mathlib.Core.Path.{_≡_, refl, sym, ap, _∙_, subst}
+use mathlib.Core.Path.{_≡_, refl, sym, ap, ap₂, _∙_, subst}
 use mathlib.Core.Bool.{true, false, cond}
 use mathlib.Core.List.{List}
 use Prim.Native.Nat.{ℕ, _+_, _≤_}
@@ -18,8 +18,9 @@ use Rattle.chunks.proofs.Alike.{Alike, alike, alike-drop, field-alike, name-ali
 use Rattle.chunks.proofs.Walks.{visit-whole}
 use Rattle.chunks.proofs.Deciding.{OwnChunk, Comes, comes-further, decides}
 use Rattle.wave.specs.Names.{riff, wave, fmt, data′}
-use Rattle.wave_values.specs.Values.{fmtLength}
-use Rattle.wave.specs.Walk.{Found, Seen, nothing, values, fmtChunk, dataChunk, chunk, find, findOf, wholeFrames, readOf}
+use Rattle.wave_values.specs.Values.{longFmtLength, knownLength}
+use Rattle.wave.specs.Walk.{Found, Seen, nothing, extraIn, values, fmtChunk, dataChunk, chunk, find, findOf, wholeFrames, readOf}
+use Rattle.wave.proofs.Chunks.{known-long}
 use Rattle.wave.proofs.Answers.{accepted-means}
 
 -- ---- a chunk is judged by itself
@@ -29,16 +30,26 @@ abbrev reach : List ℕ → ℕ
 reach rest = cond (named rest fmt) (headerLength + sizeIn lowest rest) headerLength
 
 module _ (r q : List ℕ) where
+  extra-alike : Alike (headerLength + sizeIn lowest r) r q → extraIn r ≡ extraIn q
+  unfolding extraIn
+  extra-alike a =
+      let m = headerLength + sizeIn lowest r in
+      let size = field-alike m r q a lowest 4 4 (omega arith) in
+      by-test (eqb (sizeIn lowest r) longFmtLength)
+      (λ t. ap₂ (λ (n x : ℕ). cond (eqb n longFmtLength) x 0) size (field-alike m r q a lowest 24 2 (omega (arith, eqb-true (sizeIn lowest r) longFmtLength t))))
+      (λ t. rw (sym size, t))
+
   fmt-alike : (seen : Seen) → Alike (headerLength + sizeIn lowest r) r q → fmtChunk r seen ≡ fmtChunk q seen
   unfolding fmtChunk values
   fmt-alike seen a =
       let m = headerLength + sizeIn lowest r in
       let size = field-alike m r q a lowest 4 4 (omega arith) in
-      by-test (eqb (sizeIn lowest r) fmtLength)
-      (λ t. let sixteen = eqb-true (sizeIn lowest r) fmtLength t in
+      by-test (knownLength (sizeIn lowest r))
+      (λ t. let long = known-long (sizeIn lowest r) t in
       let at = field-alike m r q a lowest in
       rw (
         size,
+        extra-alike a,
         at 8 2 (omega arith),
         at 10 2 (omega arith),
         at 12 4 (omega arith),

@@ -13,8 +13,8 @@ use Rattle.samples.specs.Channels.{countOf}
 use Rattle.samples.specs.declared.channels.Channels.{Channels}
 use Rattle.samples.specs.declared.format.Format.{Format}
 use Rattle.wave.specs.Names.{fmt, data′}
-use Rattle.wave_values.specs.Values.{fmtLength, frameSize, codingOf, channelsOf, knownRate, right}
-use Rattle.wave.specs.Walk.{Found, Seen, nothing, sound, first, judged, values, fmtChunk, dataChunk, chunk}
+use Rattle.wave_values.specs.Values.{knownLength, frameSize, codingOf, channelsOf, knownRate, right}
+use Rattle.wave.specs.Walk.{Found, Seen, nothing, sound, first, judged, extraIn, values, fmtChunk, dataChunk, chunk}
 use Rattle.wave_values.specs.declared.Coding.{Coding}
 use Rattle.wave_values.specs.declared.Coding.the-variants.{Known, Unknown}
 use Rattle.wave_values.specs.declared.Sides.{Sides}
@@ -54,7 +54,7 @@ module _ (rest : List ℕ) (at : ℕ) (seen : Seen) where
   first-says : (before : Seen) → Says rest at seen (first before (values rest))
   unfolding first values
   first-says nothing =
-      judged-says (codingOf (field lowest rest 8 2) (field lowest rest 22 2)) (channelsOf (field lowest rest 10 2))
+      judged-says (codingOf (sizeIn lowest rest) (extraIn rest) (field lowest rest 8 2) (field lowest rest 22 2)) (channelsOf (field lowest rest 10 2))
       (field lowest rest 12 4) (field lowest rest 16 4) (field lowest rest 20 2)
   first-says (sound rate format channels) = refuses (lit≤ tt) (lit≤ tt)
 
@@ -67,7 +67,7 @@ pub chunk-says : (rest : List ℕ) (at : ℕ) (seen : Seen) → Says rest at see
 unfolding chunk fmtChunk
 chunk-says rest at seen =
     cond-case (Says rest at seen) _ _ (named rest fmt)
-    (λ _. cond-case (Says rest at seen) _ _ (eqb (sizeIn lowest rest) fmtLength)
+    (λ _. cond-case (Says rest at seen) _ _ (knownLength (sizeIn lowest rest))
     (λ _. cond-case (Says rest at seen) _ _ (contained lowest rest) (λ _. first-says rest at seen seen) (λ _. refuses (lit≤ tt) (lit≤ tt)))
     (λ _. refuses (lit≤ tt) (lit≤ tt)))
     (λ _. cond-case (Says rest at seen) _ _ (named rest data′) (data-says rest at seen) (λ _. goes (λ good. good)))

@@ -1,5 +1,11 @@
 -- Bookkeeping of private functions: a reader of the promises needs none of it.
+use mathlib.Core.List.{List}
+use Prim.Native.Nat.{ℕ, _+_, _≤_}
+use lib.ListN.{length}
 use Rattle.answers.specs.Answer.{Answer}
+use Rattle.fields.specs.Bytes.{lowest}
+use Rattle.chunks.specs.Walk.{headerLength, sizeIn}
+use Rattle.wave_values.specs.Values.{fmtLength}
 use Rattle.chunks.specs.Walk as walk
 use Rattle.wave.specs.Walk.{Found, findAnswer}
 use Rattle.wave.specs.Walk as header
@@ -7,6 +13,11 @@ use Rattle.wave.specs.declared.chunk.Seen.{Seen}
 use Rattle.wave.specs.declared.chunk.Seen.the-variants.{Nothing, Sound}
 use Rattle.wave.specs.declared.chunk.Step.{Step}
 use Rattle.wave.specs.declared.chunk.Step.the-variants.{Ends, On}
+
+-- a `fmt ` of a known length is all there
+pub record FormatThere (rest : List ℕ) : Type 0 where
+  pub long : fmtLength ≤ sizeIn lowest rest
+  pub there : headerLength + sizeIn lowest rest ≤ length rest
 
 -- the `fmt ` that the code has met
 abbrev pub seenOf : Seen → header.Seen

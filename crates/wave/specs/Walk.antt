@@ -12,7 +12,7 @@ use Rattle.samples.specs.Channels.{countOf}
 use Rattle.samples.specs.declared.channels.Channels.{Channels}
 use Rattle.samples.specs.declared.format.Format.{Format}
 use Rattle.wave.specs.Names.{riff, wave, fmt, data′}
-use Rattle.wave_values.specs.Values.{fmtLength, frameSize, codingOf, channelsOf, right}
+use Rattle.wave_values.specs.Values.{longFmtLength, knownLength, frameSize, codingOf, channelsOf, right}
 use Rattle.wave_values.specs.declared.Coding.{Coding}
 use Rattle.wave_values.specs.declared.Coding.the-variants.{Known, Unknown}
 use Rattle.wave_values.specs.declared.Sides.{Sides}
@@ -49,16 +49,20 @@ judged (Known format) (OneOrTwo channels) rate byteRate block =
 judged (Known format) OtherCount rate byteRate block = ends (refused 23 0)
 judged Unknown sides rate byteRate block = ends (refused 23 0)
 
+-- rule 8.7: the two bytes of a `fmt ` of 18 behind the sixteen; 0 where there are none
+unfoldable pub extraIn : List ℕ → ℕ
+extraIn rest = cond (eqb (sizeIn lowest rest) longFmtLength) (field lowest rest 24 2) 0
+
 -- rule 8.7: where the values of a `fmt ` stand, `rest` the front from it on
 unfoldable pub values : List ℕ → Step Seen (Answer Found)
 values rest =
-    judged (codingOf (field lowest rest 8 2) (field lowest rest 22 2)) (channelsOf (field lowest rest 10 2))
+    judged (codingOf (sizeIn lowest rest) (extraIn rest) (field lowest rest 8 2) (field lowest rest 22 2)) (channelsOf (field lowest rest 10 2))
     (field lowest rest 12 4) (field lowest rest 16 4) (field lowest rest 20 2)
 
 -- rule 8.6: a `fmt ` chunk: its length, then whether it is all there, then whether it is the first, then its values
 unfoldable pub fmtChunk : List ℕ → Seen → Step Seen (Answer Found)
 fmtChunk rest seen =
-    cond (eqb (sizeIn lowest rest) fmtLength)
+    cond (knownLength (sizeIn lowest rest))
     (cond (contained lowest rest) (first seen (values rest)) (ends (refused 24 0)))
     (ends (refused 23 0))
 

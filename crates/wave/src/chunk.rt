@@ -10,18 +10,18 @@ use fields::names::named;
 use samples::Channels;
 use samples::Format;
 use wave_values::Coding;
-use wave_values::FMT_LENGTH;
+use wave_values::LONG_FMT_LENGTH;
 use wave_values::Sides;
 use wave_values::channels_of;
 use wave_values::coding_of;
+use wave_values::known_length;
 use wave_values::right;
 ghost use mathlib.Core.Path.{_≡_};
-ghost use Prim.Native.Nat.{_+_, _≤_, _<_, _^_};
+ghost use Prim.Native.Nat.{_≤_, _<_, _^_};
 ghost use lib.ListN.{length};
 ghost use Rattle.chunks.specs.Walk.{headerLength};
-ghost use Rattle.wave_values.specs.Values.{fmtLength};
-ghost use Rattle.wave.specs.Walk.{judged, values, fmtChunk, dataChunk, chunk, findAnswer};
-ghost use Rattle.wave.specs.Private.{seenOf, stepOf};
+ghost use Rattle.wave.specs.Walk.{judged, extraIn, values, fmtChunk, dataChunk, chunk, findAnswer};
+ghost use Rattle.wave.specs.Private.{FormatThere, seenOf, stepOf};
 
 // The `fmt ` that the walk has met.
 pub(crate) enum Seen {
@@ -52,11 +52,22 @@ fn judged(coding: Coding, sides: Sides, rate: u32, byterate: u32, block: u32) ->
     }
 }
 
+// The two bytes behind the sixteen of `fmt `, and 0 where there are none.
+fn extra_in(rest: &[u8]) -> u32
+    requires { ⌜ FormatThere (now rest) ⌝ }
+    ensures { λ r. ⌜ r ≡ extraIn (now (rest .entry)) ⌝ }
+{
+    if size_in(rest) != LONG_FMT_LENGTH {
+        return 0;
+    }
+    two(rest, 24)
+}
+
 fn format_values(rest: &[u8]) -> Step
-    requires { ⌜ headerLength + fmtLength ≤ length (now rest) ⌝ }
+    requires { ⌜ FormatThere (now rest) ⌝ }
     ensures { λ r. ⌜ stepOf r ≡ values (now (rest .entry)) ⌝ }
 {
-    let coding = coding_of(two(rest, 8), two(rest, 22));
+    let coding = coding_of(size_in(rest), extra_in(rest), two(rest, 8), two(rest, 22));
     let sides = channels_of(two(rest, 10));
     judged(coding, sides, four(rest, 12), four(rest, 16), two(rest, 20))
 }
@@ -65,7 +76,7 @@ fn format_chunk(rest: &[u8], seen: Seen) -> Step
     requires { ⌜ headerLength ≤ length (now rest) ⌝ }
     ensures { λ r. ⌜ stepOf r ≡ fmtChunk (now (rest .entry)) (seenOf seen) ⌝ }
 {
-    if size_in(rest) != FMT_LENGTH {
+    if !known_length(size_in(rest)) {
         return Step::Ends(Finding::Refused(Refusal::WrongFormat));
     }
     if !contained(rest) {

@@ -17,24 +17,24 @@ rate-small rate h =
     (λ t. omega (arith, eqb-true rate 44100 t))
     (λ t. omega (arith, eqb-true rate 48000 (subst (λ (b : Bool). (b || eqb rate 48000) ≡ true) t h)))
 
--- a frame of one or two channels has up to six bytes
+-- a frame of one or two channels has up to eight bytes
 pub record FrameSmall (size : ℕ) : Type 0 where
   pub least : 0 < size
-  pub most : size < 7
+  pub most : size < 9
 
-pub frame-small : {count each : ℕ} → 0 < count → count < 3 → 0 < each → each < 4 → FrameSmall (count * each)
+pub frame-small : {count each : ℕ} → 0 < count → count < 3 → 0 < each → each < 5 → FrameSmall (count * each)
 frame-small {count} {each} c d e f =
     let least : 1 * 1 ≤ count * each = mul-le-mul c e in
     let two : count ≤ 2 = omega arith in
-    let three : each ≤ 3 = omega arith in
-    let most : count * each ≤ 2 * 3 = mul-le-mul two three in
+    let four : each ≤ 4 = omega arith in
+    let most : count * each ≤ 2 * 4 = mul-le-mul two four in
     record { least = omega arith; most = omega arith }
 
 -- the byte rate of a known rate fits
-pub product-fits : (rate size : ℕ) → rate ≤ 48000 → size < 7 → rate * size < 4294967296
+pub product-fits : (rate size : ℕ) → rate ≤ 48000 → size < 9 → rate * size < 4294967296
 product-fits rate size r s =
-    let six : size ≤ 6 = omega arith in
-    let l : rate * size ≤ 48000 * 6 = mul-le-mul r six in
+    let eight : size ≤ 8 = omega arith in
+    let l : rate * size ≤ 48000 * 8 = mul-le-mul r eight in
     omega arith
 
 -- a byte rate is tested against a frame's bytes

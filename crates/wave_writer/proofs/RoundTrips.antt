@@ -21,9 +21,9 @@ use Rattle.chunks.specs.Walk.{headerLength, chunkHeader, next, ends, on}
 use Rattle.chunks.proofs.Walks.{walk-ends, walk-on}
 use Rattle.samples.specs.Channels.{countOf}
 use Rattle.samples.specs.declared.channels.Channels.{Channels}
-use Rattle.wave_values.specs.Values.{fmtLength, frameSize, codingOf, knownRate, right}
+use Rattle.wave_values.specs.Values.{fmtLength, knownLength, frameSize, wholeCoding, codingOf, knownRate, right}
 use Rattle.wave_writer.specs.Header.{written, headerBytes, fmtContents, header, writeChecks, writeOf, writeAnswer}
-use Rattle.wave.specs.Walk.{Found, nothing, sound, first, judged, values, fmtChunk, dataChunk, chunk, find, findOf, wholeFrames, readOf}
+use Rattle.wave.specs.Walk.{Found, nothing, sound, first, judged, extraIn, values, fmtChunk, dataChunk, chunk, find, findOf, wholeFrames, readOf}
 use Rattle.wave_values.specs.declared.Coding.the-variants.{Known}
 use Rattle.wave_values.specs.declared.Sides.the-variants.{OneOrTwo}
 use Rattle.wave_writer.specs.declared.writer.Written.{Written}
@@ -81,18 +81,18 @@ module _ (rate size : ℕ) (channels : Channels) (t : List ℕ) where
   length-front = length-append bytes t ∙ ap (λ (n : ℕ). n + length t) (length-header rate size (countOf channels))
 
   values-written : knownRate rate ≡ true → on (sound rate written channels) ≡ values (drop 12 (bytes ++ t))
-  unfolding header chunkHeader fmtContents row ordered little field numberIn number codingOf
+  unfolding header chunkHeader fmtContents row ordered little field numberIn number codingOf wholeCoding extraIn
   values-written known =
       let count = countOf channels in
       let frame = frameSize count written in
       let few = count-small channels in
       let fits = product-fits rate frame (rate-small rate known) (omega arith) in
-      values-of (drop 12 (bytes ++ t)) 1 24 count rate (rate * frame) frame (Known written) (OneOrTwo channels) (on (sound rate written channels))
-      refl refl refl (sym (number-row lowest 2 count (omega arith))) (count-back channels) (sym (number-row lowest 4 rate (omega (arith, rate-small rate known))))
+      values-of (drop 12 (bytes ++ t)) fmtLength 0 1 24 count rate (rate * frame) frame (Known written) (OneOrTwo channels) (on (sound rate written channels))
+      refl refl refl refl refl (sym (number-row lowest 2 count (omega arith))) (count-back channels) (sym (number-row lowest 4 rate (omega (arith, rate-small rate known))))
       (sym (number-row lowest 4 (rate * frame) fits)) (sym (number-row lowest 2 frame (omega arith))) (judged-written rate channels known)
 
   fmt-is : knownRate rate ≡ true → chunk (drop 12 (bytes ++ t)) 12 nothing ≡ on (sound rate written channels)
-  unfolding header chunkHeader fmtContents row ordered little field numberIn number same chunk fmtChunk first
+  unfolding header chunkHeader fmtContents row ordered little field numberIn number same chunk fmtChunk first knownLength
   fmt-is known =
       let r = drop 12 (bytes ++ t) in
       let long : headerLength + fmtLength ≤ length r = omega (arith, length-front, length-drop 12 (bytes ++ t)) in

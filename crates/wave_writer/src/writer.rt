@@ -42,7 +42,7 @@ pub enum Written {
 // The bytes of one frame of 24 bits.
 fn frame_of(count: u32) -> u32
     requires { ⌜ (0 < count) × (count < 3) ⌝ }
-    ensures { λ r. ⌜ (r ≡ frameSize count written) × (0 < r) × (r < 7) ⌝ }
+    ensures { λ r. ⌜ (r ≡ frameSize count written) × (0 < r) × (r < 9) ⌝ }
 {
     count * bytes_each(Format::Bits24)
 }

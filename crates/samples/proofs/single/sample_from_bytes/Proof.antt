@@ -1,5 +1,6 @@
 -- `sample_from_bytes` meets its contract: each length has its case of `fromBytes`. Assumes nothing.
 use mathlib.Core.Path.{ap, _∙_}
+use native.Mathlib.Omega.{arith}
 use borrow.Author.Needs.{needs}
 use borrow.Author.Tests.{ne-eqb}
 use mir.Facts.{toZ-ofZ}
@@ -14,13 +15,13 @@ returns : tie.Need-returns
 returns c =
     let e = c .before .before .before in
     ap Is (toZ-ofZ (record { sfits = c .sample-at .ok }))
-    ∙ from-at Bits16 (e .args .bytes .now) (c .sample-at .result) (c .before .if1 .taken) (c .sample-at .ensures)
+    ∙ from-at Bits16 (e .args .bytes .now) (c .sample-at .result) (omega arith) (c .before .if1 .taken) (c .sample-at .ensures)
 
 returns-2 : tie.Need-returns-2
 returns-2 c =
     let e = c .before .before .before .before in
     ap Is (toZ-ofZ (record { sfits = c .sample-at2 .ok }))
-    ∙ from-at Bits24 (e .args .bytes .now) (c .sample-at2 .result) (c .before .if2 .taken) (c .sample-at2 .ensures)
+    ∙ from-at Bits24 (e .args .bytes .now) (c .sample-at2 .result) (omega arith) (c .before .if2 .taken) (c .sample-at2 .ensures)
 
 returns-3 : tie.Need-returns-3
 unfolding fromBytes

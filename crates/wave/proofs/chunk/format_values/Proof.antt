@@ -17,4 +17,6 @@ format-values-spec =
     (λ c κs. search needs)
     (λ c κs. search needs)
     (λ c κs. search needs)
-    (λ c. search values-of depth 12))
+    (λ c κs. search needs)
+    (λ c κs. search needs)
+    (λ c. search values-of depth 14))
