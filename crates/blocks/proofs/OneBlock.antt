@@ -14,7 +14,7 @@ use lib.Seq.{take-at, drop-append-le}
 use lib.IntN.{ℤ, pos}
 use Rattle.answers.specs.Answer.{numberIn}
 use Rattle.answers.specs.Checks.{check, allHold, Outcome, decide, Done}
-use Rattle.answers.specs.Unit.{blockLimit}
+use Rattle.answers.specs.Unit.{turnRoom}
 use Rattle.answers.proofs.Laws.{and-left, and-right}
 use Rattle.octave.specs.Answer.{faultNumber, blockAnswer}
 use Rattle.octave.specs.Block.{blockChecks, equalised}
@@ -54,21 +54,21 @@ not-written (blocked.Sample i) t = refl
 -- ---- the lengths
 
 pub record Lengths (n skipped bytes : ℕ) : Type 0 where
-  pub short : n ≤ blockLimit
+  pub short : n ≤ turnRoom
   pub within : skipped ≤ n
   pub fit : bytes ≡ 3 * (n - skipped)
 
 pub lengths : (n skipped bytes : ℕ) → lengthsFit n skipped bytes ≡ true → Lengths n skipped bytes
 lengths n skipped bytes e =
-    let rest = and-right (leb n blockLimit) _ e in
+    let rest = and-right (leb n turnRoom) _ e in
     record {
-      short = leb-true n blockLimit (and-left (leb n blockLimit) _ e);
+      short = leb-true n turnRoom (and-left (leb n turnRoom) _ e);
       within = leb-true skipped n (and-left (leb skipped n) _ rest);
       fit = eqb-true bytes (3 * (n - skipped)) (and-right (leb skipped n) _ rest);
     }
 
 lengths-fit : (n skipped bytes : ℕ) → Lengths n skipped bytes → lengthsFit n skipped bytes ≡ true
-lengths-fit n skipped bytes l = rw (le-leb n blockLimit (l .short), le-leb skipped n (l .within)) (eq-eqb bytes (3 * (n - skipped)) (l .fit))
+lengths-fit n skipped bytes l = rw (le-leb n turnRoom (l .short), le-leb skipped n (l .within)) (eq-eqb bytes (3 * (n - skipped)) (l .fit))
 
 -- ---- the call
 

@@ -10,7 +10,8 @@ use lib.IntN.{ℤ, pos}
 use lib.Signed.{ltZ, leZ, _≤ℤ_, ltZ-yes, clashℤ}
 use Rattle.answers.specs.Answer.{numberIn}
 use Rattle.answers.specs.Checks.{allHold}
-use Rattle.answers.specs.Range.{within, firstOutside, allWithin}
+use Rattle.answers.specs.First.{firstFailing}
+use Rattle.answers.specs.Range.{within, allWithin}
 use Rattle.answers.specs.Unit.{leastSample, mostSample, largestGain, unity}
 use Rattle.answers.proofs.Ranges.{all-cons, cons-all}
 use Rattle.answers.proofs.Laws.{and-left, and-right, all-accept, refused-keeps}
@@ -35,7 +36,7 @@ abbrev pub allInRange : List ℤ → Bool
 allInRange = allWithin leastSample mostSample
 
 pub none-within : (lo hi : ℤ) → allWithin lo hi [] ≡ true
-unfolding firstOutside
+unfolding firstFailing
 none-within lo hi = refl
 
 pub next-in-range : (z : ℤ) (s : List ℤ) → inRange z ≡ true → allInRange s ≡ true → allInRange (z ∷ s) ≡ true

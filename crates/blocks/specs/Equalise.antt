@@ -7,7 +7,7 @@ use lib.ListN.{length, drop, replicate}
 use lib.IntN.{ℤ, pos}
 use Rattle.answers.specs.Answer.{numberIn}
 use Rattle.answers.specs.Checks.{Check, check, Outcome, decide}
-use Rattle.answers.specs.Unit.{blockLimit}
+use Rattle.answers.specs.Unit.{turnRoom}
 use Rattle.samples.specs.Samples.{bytesOf}
 use Rattle.octave.specs.declared.block.Blocked.{Blocked}
 use Rattle.octave.specs.Answer.{blockAnswer}
@@ -23,9 +23,9 @@ zeros input = replicate (length input) (pos 0)
 abbrev pub blockFor : (memory gains input : List ℤ) → Outcome Blocked (List ℤ × List ℤ)
 blockFor memory gains input = blockOf memory gains input (zeros input)
 
--- rule 10.16: no more than a block, no more dropped than there are, and three bytes for each other output
+-- rule 10.16: no more samples than a turn has room for, no more dropped than there are, and three bytes for each other output
 abbrev pub lengthsFit : (n skipped bytes : ℕ) → Bool
-lengthsFit n skipped bytes = leb n blockLimit && (leb skipped n && eqb bytes (3 * (n - skipped)))
+lengthsFit n skipped bytes = leb n turnRoom && (leb skipped n && eqb bytes (3 * (n - skipped)))
 
 -- rule 10.16: whether the block call accepted
 abbrev pub isWritten : Blocked → Bool

@@ -1,12 +1,12 @@
 // One block: samples through the equaliser, and its outputs to bytes.
-use answers::unit::BLOCK_LIMIT;
+use answers::unit::TURN_ROOM;
 use octave::block::Blocked;
 use octave::block::block;
 ghost use mathlib.Core.Path.{_≡_};
 ghost use lib.ListN.{replicate};
 ghost use lib.IntN.{pos};
 ghost use Rattle.answers.specs.Checks.{Done};
-ghost use Rattle.answers.specs.Unit.{blockLimit};
+ghost use Rattle.answers.specs.Unit.{turnRoom};
 ghost use Rattle.blocks.specs.Equalise.{lengthsFit, isWritten, equaliseOf};
 
 // What `equalise` answers.
@@ -21,7 +21,7 @@ pub enum Equalised {
 fn fits(n: usize, skipped: usize, bytes: usize) -> bool
     ensures { λ r. ⌜ r ≡ lengthsFit n skipped bytes ⌝ }
 {
-    if BLOCK_LIMIT < n {
+    if TURN_ROOM < n {
         return false;
     }
     if n < skipped {
@@ -39,11 +39,11 @@ fn is_written(blocked: Blocked) -> bool
     true
 }
 
-// The outputs of the longest block, before its call.
-fn cleared() -> [i32; BLOCK_LIMIT]
-    ensures { λ r. ⌜ r ≡ replicate blockLimit (pos 0) ⌝ }
+// The outputs of the longest block of a run, before its call.
+fn cleared() -> [i32; TURN_ROOM]
+    ensures { λ r. ⌜ r ≡ replicate turnRoom (pos 0) ⌝ }
 {
-    [0; BLOCK_LIMIT]
+    [0; TURN_ROOM]
 }
 
 // Equalises a block of the memory's channels, frame behind frame, and stores its outputs but the first `skipped` samples, three bytes each.

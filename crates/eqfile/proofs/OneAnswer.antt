@@ -18,7 +18,7 @@ use Rattle.eqfile.specs.Start.{Plan, numberOf, startOf, startAnswer}
 -- ---- the way back
 
 refusalBack : ℕ → Refusal
-refusalBack n = cond (eqb n 30) refusal.Arguments (cond (eqb n 26) refusal.TooLong (refusal.Header (refusal-back n)))
+refusalBack n = cond (eqb n 30) refusal.Arguments (cond (eqb n 26) refusal.TooLong (cond (eqb n 41) refusal.NotNumber (refusal.Header (refusal-back n))))
 
 startBack : Answer Plan → Start
 startBack (accepted p) = start.Run (p .rate) (p .format) (p .channels) (p .frames) (p .start)
@@ -33,6 +33,7 @@ refusal-way (refusal.Header header.WrongFormat) = refl
 refusal-way (refusal.Header header.CutOff) = refl
 refusal-way (refusal.Header header.PartFrame) = refl
 refusal-way refusal.TooLong = refl
+refusal-way refusal.NotNumber = refl
 
 start-way : (r : Start) → startBack (startAnswer r) ≡ r
 unfolding startBack

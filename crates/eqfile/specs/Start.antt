@@ -32,6 +32,7 @@ abbrev pub numberOf : Refusal → ℕ
 numberOf refusal.Arguments = 30
 numberOf (refusal.Header r) = wave.numberOf r
 numberOf refusal.TooLong = 26
+numberOf refusal.NotNumber = 41
 
 -- rule 10.6: the frames in the data, if a header can state the bytes that they are written in
 abbrev pub planFor : Found → Answer Plan

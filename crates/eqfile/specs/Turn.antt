@@ -1,8 +1,8 @@
 -- The plan of a run, turn by turn: frame n of the file that is written is output n + 1,143 (`late`), and zeros follow the input.
 use mathlib.Core.Bool.{Bool, cond}
-use Prim.Native.Nat.{ℕ, _+_, _-_, _*_, _/_, min}
+use Prim.Native.Nat.{ℕ, _+_, _-_, _*_, min}
 use lib.Dec.{eqb}
-use Rattle.answers.specs.Unit.{blockLimit}
+use Rattle.answers.specs.Unit.{turnLimit}
 use Rattle.eqfile.specs.declared.turn.Turn.{Turn}
 
 -- rule 10.9: the delay of the program's eight bands (proofs/Turns: `late-is-the-delay`)
@@ -12,10 +12,6 @@ late = 1143
 -- rule 10.9: the frames of the file, and zeros for as long as the delay
 abbrev pub fedInAll : ℕ → ℕ
 fedInAll frames = frames + late
-
--- rule 10.10: the most frames of a turn: 4,096 samples of so many channels
-abbrev pub mostFed : (count : ℕ) → ℕ
-mostFed count = blockLimit / count
 
 -- rule 10.11: whether all bytes of the file's frames before `at` were read, `size` bytes a frame
 abbrev pub allRead : (size frames at read : ℕ) → Bool
@@ -30,7 +26,7 @@ wantedOf size frames at read fed = cond (allRead size frames at read) (size * mi
 unfoldable pub turnOf : (count size frames at read : ℕ) → Turn
 unfolding wantedOf
 turnOf count size frames at read =
-    let fed = min (mostFed count) (fedInAll frames - at) in
+    let fed = min turnLimit (fedInAll frames - at) in
     let skipped = min fed (late - at) in
     record { fed = fed; wanted = wantedOf size frames at read fed; skipped = skipped; written = 3 * (count * (fed - skipped)) }
 

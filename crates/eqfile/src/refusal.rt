@@ -1,4 +1,4 @@
-// Why a run does not start, and the page's numbers for it.
+// Why a run does not start, or stops, and the page's numbers for it.
 ghost use mathlib.Core.Path.{_≡_};
 ghost use Rattle.eqfile.specs.Start.{numberOf};
 
@@ -9,6 +9,8 @@ pub enum Refusal {
     Header(wave::Refusal),
     // 26: three bytes for each sample are too many.
     TooLong,
+    // 41: a sample of a block is no number.
+    NotNumber,
 }
 
 // The page's number of a refusal.
@@ -19,5 +21,6 @@ pub fn number(refusal: Refusal) -> u64
         Refusal::Header(refused) => wave::number(refused) as u64,
         Refusal::TooLong => 26,
         Refusal::Arguments => 30,
+        Refusal::NotNumber => 41,
     }
 }

@@ -1,5 +1,5 @@
-// The plan of a run: the frames of the file and as many zeros after them as the delay go through the equaliser in full blocks.
-use answers::unit::BLOCK_LIMIT;
+// The plan of a run: the frames of the file and as many zeros after them as the delay go through the equaliser in blocks of 256.
+use answers::unit::TURN_LIMIT;
 use chunks::place::padding;
 use samples::Channels;
 use samples::Format;
@@ -62,7 +62,7 @@ pub fn next_turn(format: Format, channels: Channels, frames: u32, at: usize, rea
     ensures { λ r. ⌜ r ≡ turnOf (countOf channels) (frameSize (countOf channels) format) frames at read ⌝ }
 {
     let count = channel_count(channels) as usize;
-    let fed = least(BLOCK_LIMIT / count, left(fed_in_all(frames), at));
+    let fed = least(TURN_LIMIT, left(fed_in_all(frames), at));
     let skipped = least(fed, left(LATE, at));
     Turn {
         fed,

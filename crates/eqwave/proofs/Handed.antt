@@ -20,10 +20,10 @@ use Rattle.turning.specs.Running.{Due, Ended}
 
 -- what is handed over follows what the turns before it handed over
 pub due-is-next : (job : Job) (gains : List ℤ) (front bytes : List ℕ) (d : Due job gains front bytes) →
-    let us = d .came .running .pieces in
+    let us = d .came .arrived .running .pieces in
     programWrites gains (job .format) (job .channels) (job .frames) (fresh (job .channels)) (us ++ d .piece ∷ []) ≡ programWrites gains (job .format) (job .channels) (job .frames) (fresh (job .channels)) us ++ bytes
 due-is-next job gains front bytes d =
-    let run = d .came .running in
+    let run = d .came .arrived .running in
     let us = run .pieces in
     writes-more gains (job .format) (job .channels) (job .frames) (fresh (job .channels)) us (d .piece) ∙
     ap (λ (l : List ℕ). programWrites gains (job .format) (job .channels) (job .frames) (fresh (job .channels)) us ++ l)
@@ -47,7 +47,7 @@ module _ (job : Job) (gains : List ℤ) (front : List ℕ) (read : ℕ) (e : End
 
   -- what of the data came with the front was read first
   pub front-read-first : let came = take (frameBytes (job .format) (job .channels) * job .frames) (drop (job .start) front) in take (length came) (handed (e .pieces)) ≡ came
-  front-read-first = front-first gains (job .format) (job .channels) (job .frames) front (job .start) (e .pieces) (e .started .few) (e .by-plan) (e .fetched)
+  front-read-first = front-first gains (job .format) (job .channels) (job .frames) front (job .start) (e .pieces) (e .by-plan) (e .fetched)
 
   abbrev file : List ℕ
   file = fileOf gains (e .rate) (job .format) (job .channels) (job .frames) (e .pieces)

@@ -21,7 +21,7 @@ fn begin(arguments: Arguments, front: &[u8], gains: &[i32])
     requires { ⌜ Before arguments (now front) (now gains) ⌝ }
 {
     match eqfile::begin(arguments, front) {
-        Start::Refused(refusal) => say::line(b"refused ", eqfile::number(refusal)),
+        Start::Refused(refusal) => say::refused(refusal),
         Start::Run {
             rate,
             format,

@@ -1,5 +1,6 @@
 // A run: the header, then turn after turn.
 use crate::say;
+use eqfile::Refusal;
 use samples::Channels;
 use samples::channel_count;
 use turning::buffers;
@@ -10,7 +11,7 @@ use turning::turn::Turned;
 use turning::turn::one_turn;
 ghost use Rattle.runs.specs.Started.{Started};
 ghost use Rattle.eqwave.specs.Started.{Begun};
-ghost use Rattle.turning.specs.Running.{Running, Ended};
+ghost use Rattle.turning.specs.Running.{Running, Stopped, Ended};
 
 // As many bands as arguments.
 const BANDS: i32 = arguments::BANDS as i32;
@@ -25,6 +26,13 @@ fn missing(job: Job, gains: &[i32], front: &[u8], read: usize)
     if 0 < bytes {
         say::line(b"short ", bytes as u64);
     }
+}
+
+// Says that a block came with a sample that is no number: nothing of it was handed over.
+fn stop(job: Job, gains: &[i32], front: &[u8])
+    requires { ⌜ Stopped job (now gains) (now front) ⌝ }
+{
+    say::refused(Refusal::NotNumber);
 }
 
 // The pad behind the last sample. Answers whether standard output took it.
@@ -48,19 +56,26 @@ fn finish(job: Job, gains: &[i32], front: &[u8], read: usize)
     missing(job, gains, front, read);
 }
 
-// Every turn, and then the end. It stops where standard output takes no more.
+// Every turn, and then the end. It stops where a sample is no number, and where standard output takes no more.
 fn turns(job: Job, gains: &[i32], front: &[u8], memory: &mut [i32])
     requires { ⌜ Running job (now gains) (now front) (record { at = 0; read = 0 }) (now memory) ⌝ }
 {
     let mut place = Place { at: 0, read: 0 };
     let total = eqfile::fed_in_all(job.frames);
     while place.at < total {
-        let turned = one_turn(job, gains, front, place, memory);
-        let Turned::On(further) = turned else {
-            say::output_failed();
-            return;
-        };
-        place = further;
+        match one_turn(job, gains, front, place, memory) {
+            Turned::On(further) => {
+                place = further;
+            }
+            Turned::NotANumber => {
+                stop(job, gains, front);
+                return;
+            }
+            Turned::OutputFailed => {
+                say::output_failed();
+                return;
+            }
+        }
     }
     finish(job, gains, front, place.read);
 }

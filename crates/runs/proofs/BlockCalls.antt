@@ -21,12 +21,13 @@ use Rattle.blocks.specs.Equalise.{zeros}
 use Rattle.runs.specs.Program.{State, fresh, handed, frameBytes, turnAt, turnSamples, next, after, Followed, ByPlan, samplesRead}
 use Rattle.eqfile.proofs.Turns.{wanted-few}
 use Rattle.runs.proofs.NeverMore.{step}
+use Rattle.runs.proofs.OneMore.{at-grows, at-within}
 use Rattle.runs.proofs.SamplesInPieces.{more-zeros, no-bytes, from-append}
 
 -- ---- one turn
 
 -- the data has ended, or it is all asked for
-abbrev Over : (size frames at read : ℕ) → Type 0
+abbrev pub Over : (size frames at read : ℕ) → Type 0
 Over size frames at read = (read < size * min at frames) ⊎ (frames ≤ at)
 
 -- then nothing more is asked for
@@ -49,7 +50,7 @@ over-stays size frames at read fed (inl l) =
 over-stays size frames at read fed (inr l) = inr (omega arith)
 
 -- a block that lacks some of its bytes is the last that has any
-last-piece : (size frames at read fed got : ℕ) → read ≤ size * min at frames → got ≤ size * fed → (got ≡ size * fed) ⊎ Over size frames (at + fed) (read + got)
+pub last-piece : (size frames at read fed got : ℕ) → read ≤ size * min at frames → got ≤ size * fed → (got ≡ size * fed) ⊎ Over size frames (at + fed) (read + got)
 last-piece size frames at read fed got r own = by (decLt got (size * fed)) (decLt (at + fed) frames)
   where
     by : Dec (got < size * fed) → Dec (at + fed < frames) → (got ≡ size * fed) ⊎ Over size frames (at + fed) (read + got)
@@ -63,7 +64,7 @@ last-piece size frames at read fed got r own = by (decLt got (size * fed)) (decL
 -- ---- all turns
 
 -- the bytes of frames are those of their samples
-by-samples : (count each n : ℕ) → count * each * n ≡ each * (count * n)
+pub by-samples : (count each n : ℕ) → count * each * n ≡ each * (count * n)
 by-samples count each n = omega arith
 
 pub no-length : {A : Type 0} (s : List A) → length s ≡ 0 → s ≡ []
@@ -71,13 +72,13 @@ no-length [] e = refl
 no-length (a ∷ s) e = absurd (omega arith)
 
 module _ (gains : List ℤ) (format : Format) (channels : Channels) (frames : ℕ) where
-  over-nothing : (s : State) (us : List (List ℕ)) → Over (frameBytes format channels) frames (s .at) (s .read) → Followed gains format channels frames s us → handed us ≡ []
+  pub over-nothing : (s : State) (us : List (List ℕ)) → Over (frameBytes format channels) frames (s .at) (s .read) → Followed gains format channels frames s us → handed us ≡ []
   unfolding Followed handed turnOf
   over-nothing s [] o h = refl
   over-nothing s (u ∷ us) o h =
       let size = frameBytes format channels in
       let fed = turnAt format channels frames s .fed in
-      let z : length u ≡ 0 = omega (arith, h .0 .read-most, over-none size frames (s .at) (s .read) fed o) in
+      let z : length u ≡ 0 = omega (arith, h .0 .arrives .read-most, over-none size frames (s .at) (s .read) fed o) in
       let o' : Over size frames (s .at + fed) (s .read + length u) = rw z (over-stays size frames (s .at) (s .read) fed o) in
       ap₂ _++_ (no-length u z) (over-nothing (next gains format channels frames s u) us o' (h .1))
 
@@ -88,7 +89,7 @@ module _ (gains : List ℤ) (format : Format) (channels : Channels) (frames : �
   read-within s [] r h = r
   read-within s (u ∷ us) r h =
       read-within (next gains format channels frames s u) us
-      (step (frameBytes format channels) frames (s .at) (s .read) (turnAt format channels frames s .fed) (length u) r (h .0 .read-most)) (h .1)
+      (step (frameBytes format channels) frames (s .at) (s .read) (turnAt format channels frames s .fed) (length u) r (h .0 .arrives .read-most)) (h .1)
 
   -- the count of them is that of the bytes handed over
   pub read-is : (s : State) (us : List (List ℕ)) → after gains format channels frames s us .read ≡ s .read + length (handed us)
@@ -112,34 +113,44 @@ module _ (gains : List ℤ) (format : Format) (channels : Channels) (frames : �
       let input = turnSamples format channels frames s u in
       record { gains = gains; input = input; before = zeros input } ∷ calls (next gains format channels frames s u) us
 
-  rest-joined : (s : State) (us : List (List ℕ)) → s .read ≤ frameBytes format channels * min (s .at) frames → ByPlan gains format channels frames s us →
-      joined (calls s us) ≡ samplesFrom (countOf channels * (fedInAll frames - s .at)) format (handed us)
+  rest-joined : (s : State) (us : List (List ℕ)) → s .read ≤ frameBytes format channels * min (s .at) frames → Followed gains format channels frames s us →
+      joined (calls s us) ≡ samplesFrom (countOf channels * (after gains format channels frames s us .at - s .at)) format (handed us)
   unfolding Followed after handed turnOf calls joined
-  rest-joined s [] r (h, end) =
-      let z : fedInAll frames - s .at ≡ 0 = omega arith in
+  rest-joined s [] r h =
+      let z : s .at - s .at ≡ 0 = omega arith in
       sym (ap (λ (n : ℕ). samplesFrom (countOf channels * n) format []) z ∙ ap (λ (n : ℕ). samplesFrom n format []) (mul-zero (countOf channels)) ∙ no-bytes 0 format)
-  rest-joined s (u ∷ us) r (h, end) =
+  rest-joined s (u ∷ us) r h =
       let size = frameBytes format channels in
       let count = countOf channels in
       let fed = turnAt format channels frames s .fed in
       let at = s .at in
       let read = s .read in
       let got = length u in
-      let own : got ≤ size * fed = omega (arith, h .0 .read-most, wanted-few size frames at read fed) in
-      let all : count * fed + count * (fedInAll frames - (at + fed)) ≡ count * (fedInAll frames - at) =
-      sym (mul-add count fed (fedInAll frames - (at + fed))) ∙ ap (λ (n : ℕ). count * n) (omega arith) in
+      let then = next gains format channels frames s u in
+      let end = after gains format channels frames then us .at in
+      let own : got ≤ size * fed = omega (arith, h .0 .arrives .read-most, wanted-few size frames at read fed) in
+      let all : count * fed + count * (end - (at + fed)) ≡ count * (end - at) =
+      sym (mul-add count fed (end - (at + fed))) ∙ ap (λ (n : ℕ). count * n) (omega (arith, at-grows gains format channels frames then us)) in
       ap (λ (z : List ℤ). samplesFrom (count * fed) format u ++ z)
-      (rest-joined (next gains format channels frames s u) us (step size frames at read fed got r (h .0 .read-most)) (h .1, end)) ∙
-      from-append (count * fed) (count * (fedInAll frames - (at + fed))) format u (handed us) (omega (arith, by-samples count (sizeOf format) fed))
+      (rest-joined then us (step size frames at read fed got r (h .0 .arrives .read-most)) (h .1)) ∙
+      from-append (count * fed) (count * (end - (at + fed))) format u (handed us) (omega (arith, by-samples count (sizeOf format) fed))
       (⊎-elim (λ (e : got ≡ size * fed). inl (e ∙ by-samples count (sizeOf format) fed))
-      (λ (o : Over size frames (at + fed) (read + got)). inr (over-nothing (next gains format channels frames s u) us o (h .1))) (last-piece size frames at read fed got r own)) ∙
+      (λ (o : Over size frames (at + fed) (read + got)). inr (over-nothing then us o (h .1))) (last-piece size frames at read fed got r own)) ∙
       ap (λ (n : ℕ). samplesFrom n format (u ++ handed us)) all
 
-  -- the calls' samples are those of the bytes read, and the zeros that follow
+  -- the samples of some turns' calls are those of the bytes read for them
+  pub calls-so-far : (us : List (List ℕ)) → Followed gains format channels frames (fresh channels) us →
+      joined (calls (fresh channels) us) ≡ samplesFrom (countOf channels * after gains format channels frames (fresh channels) us .at) format (handed us)
+  calls-so-far us h =
+      rest-joined (fresh channels) us (omega arith) h ∙
+      ap (λ (n : ℕ). samplesFrom (countOf channels * n) format (handed us)) (sub-zero (after gains format channels frames (fresh channels) us .at))
+
+  -- the calls of a whole run: those of the bytes read, and the zeros that follow
   pub calls-join : (us : List (List ℕ)) → ByPlan gains format channels frames (fresh channels) us →
       joined (calls (fresh channels) us) ≡ samplesRead format channels frames (handed us) ++ replicate (countOf channels * late) (pos 0)
   calls-join us h =
       let count = countOf channels in
-      rest-joined (fresh channels) us (omega arith) h ∙
-      ap (λ (n : ℕ). samplesFrom n format (handed us)) (ap (λ (n : ℕ). count * n) (sub-zero (fedInAll frames)) ∙ mul-add count frames late) ∙
+      let end : after gains format channels frames (fresh channels) us .at ≡ fedInAll frames = omega (arith, h .1, at-within gains format channels frames (fresh channels) us (omega arith)) in
+      calls-so-far us (h .0) ∙
+      ap (λ (n : ℕ). samplesFrom n format (handed us)) (ap (λ (n : ℕ). count * n) end ∙ mul-add count frames late) ∙
       more-zeros (count * frames) (count * late) format (handed us) (omega (arith, by-samples count (sizeOf format) frames, handed-within (fresh channels) us (omega arith) (h .0)))

@@ -95,7 +95,7 @@ bytes-handed : (gains : List ℤ) (format : Format) (channels : Channels) (frame
 unfolding Followed handed
 bytes-handed gains format channels frames s [] h = λ i. omega arith
 bytes-handed gains format channels frames s (u ∷ us) h =
-    bytes-append u (handed us) (h .0 .bytes) (bytes-handed gains format channels frames (next gains format channels frames s u) us (h .1))
+    bytes-append u (handed us) (h .0 .arrives .bytes) (bytes-handed gains format channels frames (next gains format channels frames s u) us (h .1))
 
 -- ---- the theorems
 

@@ -8,9 +8,12 @@ pub mod NeverRefused
 pub mod AllowedGains
 pub mod Program
 pub mod AllAsked
+pub mod AnyData
 pub mod GivenBack
 pub mod Starting
 pub mod DataRead
 pub mod WholeFile
 pub mod OneMore
 pub mod FileBack
+pub mod Stopping
+pub mod Numbers

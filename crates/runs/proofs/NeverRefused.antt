@@ -10,7 +10,7 @@ use lib.ListN.{length, drop, replicate, length-replicate}
 use lib.IntN.{ℤ, pos}
 use Rattle.answers.specs.Checks.{allHold, Outcome}
 use Rattle.answers.specs.Range.{allWithin}
-use Rattle.answers.specs.Unit.{blockLimit, largestGain}
+use Rattle.answers.specs.Unit.{blockLimit, turnRoom, largestGain}
 use Rattle.tree.specs.Prototype.{published}
 use Rattle.lines.specs.Cascade.{Ran, run}
 use Rattle.lines.proofs.Lengths.{run-places}
@@ -100,10 +100,10 @@ module _ (channels : Channels) where
     pub is : equaliseOf m gains input skipped stored ≡
         record { result = Bytes (length stored); lent = (blockFor m gains input .lent .0, bytesOf (drop skipped (blockFor m gains input .lent .1))) }
 
-  pub block-taken : (m gains input : List ℤ) (skipped : ℕ) (stored : List ℕ) → Ready channels m → Allowed gains → length input % countOf channels ≡ 0 → length input ≤ blockLimit →
+  pub block-taken : (m gains input : List ℤ) (skipped : ℕ) (stored : List ℕ) → Ready channels m → Allowed gains → length input % countOf channels ≡ 0 → length input ≤ turnRoom →
       allInRange input ≡ true → skipped ≤ length input → length stored ≡ 3 * (length input - skipped) → BlockTaken m gains input skipped stored
   block-taken m gains input skipped stored s g framed short range within fits =
-      let held = checks-hold m gains input (zeros input) s g (length-replicate (length input) (pos 0)) framed short range in
+      let held = checks-hold m gains input (zeros input) s g (length-replicate (length input) (pos 0)) framed (omega arith) range in
       let ran = held-ran m gains input (zeros input) held in
       record {
         accepts = ap (λ (b : Outcome Blocked (List ℤ × List ℤ)). b .result) ran;

@@ -2,16 +2,18 @@
 use mathlib.Core.Path.{_≡_, refl, sym, ap, ap₂, subst, _∙_}
 use mathlib.Core.List.{List, [], _∷_, _++_}
 use Prim.Native.Nat.{ℕ, _+_, _-_, _*_, _%_, _≤_, _<_, min}
-use native.Mathlib.Nat.{mul-sub, mul-mod-right, mul-le-mul-left}
+use native.Mathlib.Nat.{mul-zero, mul-sub, mul-mod-right, mul-le-mul-left}
 use native.Mathlib.Decide.{decLt}
 use native.Mathlib.Omega.{arith}
-use lib.ListN.{length, drop, replicate, length-append, length-replicate}
+use lib.ListN.{length, drop, replicate, length-append, length-replicate, drop-of-length-le}
 use lib.Seq.{drop-nil, drop-length, drop-append-le, drop-append-add}
 use lib.IntN.{ℤ}
+use Rattle.frames.specs.Frames.{sideOf}
 use Rattle.frames.proofs.Laws.{woven-length}
 use Rattle.octave.specs.Memory.{prepared}
 use Rattle.octave.specs.Answer.{blockAnswer}
-use Rattle.history.specs.History.{played, AllAccepted}
+use Rattle.history.specs.History.{Call, played, AllAccepted, joined}
+use Rattle.history.proofs.Sides.{as-long}
 use Rattle.history.proofs.WholeHistory.{played-accepted}
 use Rattle.answers.specs.Answer.{accepted}
 use Rattle.answers.specs.Checks.{Outcome}
@@ -25,14 +27,15 @@ use Rattle.samples.proofs.Storing.{length-bytes, bytes-append}
 use Rattle.blocks.specs.declared.block.Equalised.{Equalised}
 use Rattle.blocks.specs.declared.block.Equalised.the-variants.{Bytes}
 use Rattle.arguments.specs.Arguments.{bands, argumentsOf}
+use Rattle.eqfile.specs.Data.{samplesFrom}
 use Rattle.eqfile.specs.Turn.{late, turnOf}
 use Rattle.eqfile.proofs.Turns.{few-channels, samples-most}
 use Rattle.blocks.specs.Equalise.{zeros, blockFor}
-use Rattle.runs.specs.Program.{State, fresh, Follows, handed, turnAt, turnSamples, blockDone, next, after, Followed, ByPlan, programWrites, framesOut, samplesRead}
+use Rattle.runs.specs.Program.{State, fresh, Follows, handed, turnAt, turnSamples, blockDone, next, after, Followed, ByPlan, programWrites, outputsOf, framesOut, samplesRead}
 use Rattle.runs.specs.Started.{bodyOf}
 use Rattle.runs.proofs.Written.{SameGains}
-use Rattle.runs.proofs.EachSide.{frames-written}
-use Rattle.runs.proofs.BlockCalls.{calls, calls-join}
+use Rattle.runs.proofs.EachSide.{frames-so-far, frames-written}
+use Rattle.runs.proofs.BlockCalls.{no-length, calls, calls-so-far, calls-join}
 use Rattle.runs.proofs.NeverRefused.{Ready, prepared-ready, BlockTaken, Allowed, block-taken}
 use Rattle.runs.proofs.SamplesInPieces.{length-from}
 use Rattle.runs.proofs.InRange.{from-within}
@@ -63,7 +66,7 @@ scaled One a b = omega arith
 scaled Two a b = omega arith
 
 module _ (gains : List ℤ) (allowed : Allowed gains) (format : Format) (channels : Channels) (frames : ℕ) where
-  turn-taken : (s : State) (u : List ℕ) → Ready channels (s .memory) → Follows (turnAt format channels frames s) u → let t = turnAt format channels frames s in
+  turn-taken : (s : State) (u : List ℕ) → Ready channels (s .memory) → Follows format channels frames s u → let t = turnAt format channels frames s in
       BlockTaken channels (s .memory) gains (turnSamples format channels frames s u) (countOf channels * t .skipped) (replicate (t .written) 0)
   unfolding turnOf
   turn-taken s u r f =
@@ -73,10 +76,10 @@ module _ (gains : List ℤ) (allowed : Allowed gains) (format : Format) (channel
       let framed : length (turnSamples format channels frames s u) % c ≡ 0 = ap (λ (n : ℕ). n % c) long ∙ mul-mod-right c (t .fed) in
       let within : c * t .skipped ≤ c * t .fed = mul-le-mul-left c (omega arith) in
       block-taken channels (s .memory) gains (turnSamples format channels frames s u) (c * t .skipped) (replicate (t .written) 0) r allowed framed
-      (omega (arith, long, samples-most c (t .fed) (omega arith))) (from-within (c * t .fed) format u (f .bytes)) (omega (arith, long))
+      (omega (arith, long, samples-most c (t .fed) (few-channels channels .1) (omega arith))) (from-within (c * t .fed) format u (f .arrives .bytes)) (omega (arith, long))
       (length-replicate (t .written) 0 ∙ ap (λ (n : ℕ). 3 * n) (mul-sub c (t .fed) (t .skipped) ∙ ap (λ (n : ℕ). n - c * t .skipped) (sym long)))
 
-  next-ready : (s : State) (u : List ℕ) → Ready channels (s .memory) → Follows (turnAt format channels frames s) u → Ready channels (next gains format channels frames s u .memory)
+  next-ready : (s : State) (u : List ℕ) → Ready channels (s .memory) → Follows format channels frames s u → Ready channels (next gains format channels frames s u .memory)
   next-ready s u r f =
       let d = turn-taken s u r f in
       subst (λ (b : Outcome Equalised (List ℤ × List ℕ)). Ready channels (b .lent .0)) (sym (d .is)) (d .ready)
@@ -132,13 +135,56 @@ same-gains gains format channels frames s (u ∷ us) = (refl, same-gains gains f
 module _ (texts : List (List ℕ)) (gains : List ℤ) (taken : argumentsOf texts ≡ accepted gains) (format : Format) (channels : Channels) (frames : ℕ) (us : List (List ℕ)) where
   -- no block of a run is refused: it stores all that its turn writes
   pub block-accepted : Followed gains format channels frames (fresh channels) us → (u : List ℕ) → let s = after gains format channels frames (fresh channels) us in
-      Follows (turnAt format channels frames s) u → blockDone gains format channels frames s u .result ≡ Bytes (turnAt format channels frames s .written)
+      Follows format channels frames s u → blockDone gains format channels frames s u .result ≡ Bytes (turnAt format channels frames s .written)
   block-accepted h u f =
       let s = after gains format channels frames (fresh channels) us in
       let allowed = arguments-allowed texts gains taken in
       ap (λ (b : Outcome Equalised (List ℤ × List ℕ)). b .result)
       (turn-taken gains allowed format channels frames s u (after-ready gains allowed format channels frames (fresh channels) us (prepared-ready channels) h) f .is) ∙
       ap Bytes (length-replicate (turnAt format channels frames s .written) 0)
+
+  -- some turns of a run: what they hand over is as many of its outputs as the frames fed, but the delay, for the samples of the bytes read so far
+  pub turns-write : Followed gains format channels frames (fresh channels) us → let at = after gains format channels frames (fresh channels) us .at in
+      programWrites gains format channels frames (fresh channels) us ≡
+      bytesOf (framesOut gains channels (at - late) (samplesFrom (countOf channels * at) format (handed us)))
+  turns-write h =
+      all-written gains allowed format channels frames (fresh channels) us (prepared-ready channels) h ∙ ap bytesOf (by (decLt (late + 0) (at + 1)))
+    where
+      c : ℕ
+      c = countOf channels
+
+      at : ℕ
+      at = after gains format channels frames (fresh channels) us .at
+
+      allowed : Allowed gains
+      allowed = arguments-allowed texts gains taken
+
+      xs : List ℤ
+      xs = samplesFrom (c * at) format (handed us)
+
+      cs : List Call
+      cs = calls gains format channels frames (fresh channels) us
+
+      out : List ℤ
+      out = played (prepared bands c) cs .output
+
+      accepts : AllAccepted (prepared bands c) cs
+      accepts = all-accepted gains allowed format channels frames (fresh channels) us (prepared-ready channels) h
+
+      fed : joined cs ≡ xs
+      fed = calls-so-far gains format channels frames us h
+
+      by : Dec (late + 0 < at + 1) → drop (c * late) out ≡ framesOut gains channels (at - late) xs
+      by (yes l) =
+          let all : at ≡ late + (at - late) = omega arith in
+          frames-so-far gains c (at - late) xs cs (length-from (c * at) format (handed us) ∙ ap (λ (n : ℕ). c * n) all) accepts
+          (same-gains gains format channels frames (fresh channels) us) fed (few-channels channels .0)
+      by (no l) =
+          let none : at - late ≡ 0 = omega arith in
+          let few : c * at ≤ c * late = mul-le-mul-left c (omega arith) in
+          let long : length out ≡ c * at = as-long bands c 0 (few-channels channels .0) cs accepts ∙ ap length fed ∙ length-from (c * at) format (handed us) in
+          drop-of-length-le out {i = c * late} (omega arith) ∙
+          sym (no-length (framesOut gains channels (at - late) xs) (woven-length c (at - late) (λ s. outputsOf gains (at - late) (sideOf c s xs)) ∙ ap (λ (n : ℕ). c * n) none ∙ mul-zero c))
 
   module _ (turns : ByPlan gains format channels frames (fresh channels) us) where
     -- no block call of a run is refused

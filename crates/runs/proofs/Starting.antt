@@ -18,7 +18,7 @@ use Rattle.wave_values.specs.Values.{knownRate}
 use Rattle.wave.specs.Walk.{Found, readOf}
 use Rattle.samples.specs.declared.format.Format.{Format}
 use Rattle.wave_writer.specs.declared.writer.Written.the-variants.{Header}
-use Rattle.wave.proofs.Answers.{accepted-rate, accepted-whole}
+use Rattle.wave.proofs.Answers.{accepted-rate, accepted-whole, accepted-start}
 use Rattle.wave_writer.proofs.Writing.{write-accepts}
 use Rattle.arguments.specs.declared.taking.Arguments.{Arguments}
 use Rattle.arguments.specs.declared.taking.Arguments.the-variants.{Taken}
@@ -95,6 +95,10 @@ module _ {gains : List ℤ} {front : List ℕ} {rate : ℕ} {format : Format} {c
       by : (a : Answer Found) → readOf front ≡ a → startAnswer (Run rate format channels frames start) ≡ planOf a → Stated front rate format channels frames start
       by (accepted f) read e = stated-plan front f read rate format channels frames start e
       by (refused k n) read e = clash e
+
+  -- the data starts in the front, or right behind it
+  pub start-within : start ≤ frontLength
+  start-within = subst (λ (n : ℕ). n ≤ frontLength) (stated .start-is) (accepted-start front (stated .found) (stated .read))
 
   pub few-enough : 3 * (countOf channels * frames) ≤ largestData
   few-enough = subst Writable (sym (s .begins)) (writable (Taken bands) front)

@@ -76,29 +76,34 @@ unity-output gains x each n lo hi =
 
 -- ---- the theorem
 
-module _ (gains xs : List ℤ) (cs : List Call) (all : AllAccepted (prepared bands 1) cs) (same : SameGains gains cs) (fed : joined cs ≡ followed xs) where
-  long : length (joined cs) ≡ length xs + late
-  long = ap length fed ∙ length-append xs (replicate late (pos 0)) ∙ ap (λ (k : ℕ). length xs + k) (length-replicate late (pos 0))
-
-  -- sample n written is output n + 1,143 for the samples read
-  pub written-is : (n : ℕ) → n < length xs → getD (drop late (played (prepared bands 1) cs .output)) n (pos 0) ≡ output published bands (λ _. gainOf gains) (signalOf xs) (n + late)
-  written-is n h =
-      let inside : late + n < length (joined cs) = omega (arith, long) in
+-- of any samples, so many beyond the delay: sample n written is output n + 1,143
+module _ (gains ys : List ℤ) (k : ℕ) (cs : List Call) (all : AllAccepted (prepared bands 1) cs) (same : SameGains gains cs) (fed : joined cs ≡ ys) (long : length ys ≡ late + k) where
+  so-far-is : (n : ℕ) → n < k → getD (drop late (played (prepared bands 1) cs .output)) n (pos 0) ≡ output published bands (λ _. gainOf gains) (signalOf ys) (n + late)
+  so-far-is n h =
+      let inside : late + n < length (joined cs) = omega (arith, ap length fed, long) in
       getD-drop late (played (prepared bands 1) cs .output) n (pos 0) ∙ output-at bands (omega arith) (omega arith) cs all (late + n) inside ∙
       output-ext published bands (carried cs) (λ _. gainOf gains) (signalOf (joined cs)) (late + n) (λ m. carried-same gains cs same (late + n) m inside) ∙
-      ap (λ (x : Signal). output published bands (λ _. gainOf gains) x (late + n)) (fun-ext (λ k. ap (λ (l : List ℤ). signalOf l k) fed ∙ zeros-after xs late k)) ∙
-      ap (output published bands (λ _. gainOf gains) (signalOf xs)) (add-comm late n)
+      ap (λ (l : List ℤ). output published bands (λ _. gainOf gains) (signalOf l) (late + n)) fed ∙
+      ap (output published bands (λ _. gainOf gains) (signalOf ys)) (add-comm late n)
 
-  -- .. and as many are written as were read
-  pub written-are : drop late (played (prepared bands 1) cs .output) ≡ from late (length xs) (output published bands (λ _. gainOf gains) (signalOf xs))
-  written-are =
+  -- .. and as many are written
+  pub so-far-are : drop late (played (prepared bands 1) cs .output) ≡ from late k (output published bands (λ _. gainOf gains) (signalOf ys))
+  so-far-are =
       let o = played (prepared bands 1) cs .output in
-      let f = output published bands (λ _. gainOf gains) (signalOf xs) in
+      let f = output published bands (λ _. gainOf gains) (signalOf ys) in
       let all-long : length o ≡ length (joined cs) =
       ap length (whole-history bands (omega arith) (omega arith) cs all) ∙ from-long 0 (length (joined cs)) (output published bands (carried cs) (signalOf (joined cs))) in
-      let left : length (drop late o) ≡ length xs = length-drop late o ∙ omega (arith, all-long, long) in
-      ext-getD (pos 0) (drop late o) (from late (length xs) f) (left ∙ sym (from-long late (length xs) f))
-      (λ n h. let i : n < length xs = omega arith in written-is n i ∙ ap f (add-comm n late) ∙ sym (from-at late (length xs) f n i))
+      let left : length (drop late o) ≡ k = length-drop late o ∙ omega (arith, all-long, ap length fed, long) in
+      ext-getD (pos 0) (drop late o) (from late k f) (left ∙ sym (from-long late k f))
+      (λ n h. let i : n < k = omega arith in so-far-is n i ∙ ap f (add-comm n late) ∙ sym (from-at late k f n i))
+
+module _ (gains xs : List ℤ) (cs : List Call) (all : AllAccepted (prepared bands 1) cs) (same : SameGains gains cs) (fed : joined cs ≡ followed xs) where
+  -- of a whole file: for the samples read
+  written-is : (n : ℕ) → n < length xs → getD (drop late (played (prepared bands 1) cs .output)) n (pos 0) ≡ output published bands (λ _. gainOf gains) (signalOf xs) (n + late)
+  written-is n h =
+      let long : length (followed xs) ≡ late + length xs = length-append xs (replicate late (pos 0)) ∙ omega (arith, length-replicate {A = ℤ} late (pos 0)) in
+      so-far-is gains (followed xs) (length xs) cs all same fed long n h ∙
+      ap (λ (x : Signal). output published bands (λ _. gainOf gains) x (n + late)) (fun-ext (zeros-after xs late))
 
   -- gains of 4,096 give every sample back
   pub unity-gives-back : ((m : ℕ) → 1 ≤ m → m ≤ bands → gainOf gains m ≡ pos unity) → (n : ℕ) → n < length xs →

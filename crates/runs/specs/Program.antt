@@ -1,9 +1,8 @@
 -- A whole run of the program, turn after turn: what it reads and what it writes after the header.
 use mathlib.Core.Path.{_≡_}
-use mathlib.Core.Bool.{cond}
+use mathlib.Core.Bool.{Bool, true}
 use mathlib.Core.List.{List, [], _∷_, _++_}
 use Prim.Native.Nat.{ℕ, _+_, _*_, _≤_}
-use lib.Dec.{eqb}
 use lib.ListN.{length, take, drop, replicate}
 use lib.IntN.{ℤ}
 use Rattle.answers.specs.Checks.{Outcome}
@@ -21,7 +20,7 @@ use Rattle.wave_values.specs.Values.{frameSize}
 use Rattle.blocks.specs.declared.block.Equalised.{Equalised}
 use Rattle.eqfile.specs.declared.turn.Turn.{Turn}
 use Rattle.arguments.specs.Arguments.{bands}
-use Rattle.eqfile.specs.Data.{samplesFrom}
+use Rattle.eqfile.specs.Data.{samplesFrom, numbersFrom}
 use Rattle.eqfile.specs.Turn.{late, fedInAll, turnOf}
 use Rattle.blocks.specs.Equalise.{equaliseOf}
 
@@ -35,8 +34,8 @@ pub record State : Type 0 where
 abbrev pub fresh : Channels → State
 fresh channels = record { at = 0; read = 0; memory = prepared bands (countOf channels) }
 
--- rule 10.11: the bytes that were read for a turn by the plan: no more than it wants, fewer if data ends early
-pub record Follows (turn : Turn) (piece : List ℕ) : Type 0 where
+-- rule 10.11: the bytes that were read for a turn: no more than it wants, fewer if data ends early
+pub record Arrives (turn : Turn) (piece : List ℕ) : Type 0 where
   pub read-most : length piece ≤ turn .wanted
   pub bytes : Bytes piece
 
@@ -58,6 +57,15 @@ module _ (format : Format) (channels : Channels) (frames : ℕ) where
   abbrev pub turnSamples : State → List ℕ → List ℤ
   turnSamples s u = samplesFrom (countOf channels * turnAt s .fed) format u
 
+  -- rule 10.19: each of them that is wholly there is a number
+  abbrev pub turnNumbers : State → List ℕ → Bool
+  turnNumbers s u = numbersFrom (countOf channels * turnAt s .fed) format u
+
+  -- rules 10.11, 10.19: the bytes of a turn by the plan: they arrive so, and each sample is a number
+  pub record Follows (s : State) (u : List ℕ) : Type 0 where
+    pub arrives : Arrives (turnAt s) u
+    pub numbers : turnNumbers s u ≡ true
+
 module _ (gains : List ℤ) (format : Format) (channels : Channels) (frames : ℕ) where
   -- rule 10.16: the block of a turn that read some bytes
   abbrev pub blockDone : State → List ℕ → Outcome Equalised (List ℤ × List ℕ)
@@ -77,7 +85,7 @@ module _ (gains : List ℤ) (format : Format) (channels : Channels) (frames : �
   -- rule 10.10: each turn by the plan
   unfoldable pub Followed : State → List (List ℕ) → Type 0
   Followed s [] = Unit {0}
-  Followed s (u ∷ us) = Follows (turnAt format channels frames s) u × Followed (next s u) us
+  Followed s (u ∷ us) = Follows format channels frames s u × Followed (next s u) us
 
   -- rule 10.10: .. until the file's frames and the zeros that follow are all fed
   abbrev pub ByPlan : State → List (List ℕ) → Type 0
@@ -104,10 +112,6 @@ samplesRead format channels frames bytes = samplesFrom (countOf channels * frame
 
 -- ---- where the bytes come from
 
--- rule 10.11: the place of the front from which on its bytes are not yet handed over: its end, once a turn was
-abbrev pub fromOf : List ℕ → (start at : ℕ) → ℕ
-fromOf front start at = cond (eqb at 0) start (length front)
-
 -- rule 10.11: the bytes of the front from a place on, and then some of standard input, but no more than are wanted
 pub record Fetched (front : List ℕ) (from wanted : ℕ) (piece : List ℕ) : Type 0 where
   pub more : List ℕ
@@ -115,7 +119,7 @@ pub record Fetched (front : List ℕ) (from wanted : ℕ) (piece : List ℕ) : T
   pub most : length piece ≤ wanted
 
 module _ (gains : List ℤ) (format : Format) (channels : Channels) (frames : ℕ) (front : List ℕ) (start : ℕ) where
-  -- rule 10.11: each turn's bytes are fetched so
+  -- rule 10.11: each turn's bytes are fetched so: those of the front begin where the bytes read so far end
   unfoldable pub AllFetched : State → List (List ℕ) → Type 0
   AllFetched s [] = Unit {0}
-  AllFetched s (u ∷ us) = Fetched front (fromOf front start (s .at)) (turnAt format channels frames s .wanted) u × AllFetched (next gains format channels frames s u) us
+  AllFetched s (u ∷ us) = Fetched front (start + s .read) (turnAt format channels frames s .wanted) u × AllFetched (next gains format channels frames s u) us

@@ -4,7 +4,6 @@ use mathlib.Core.List.{List, _++_}
 use Prim.Native.Nat.{ℕ, _+_, _-_, _≤_, _<_, min}
 use native.Mathlib.Decide.{decLt}
 use native.Mathlib.Omega.{arith}
-use borrow.Author.Tests.{eq-eqb, ne-eqb}
 use borrow.Rule.Slice.PartMut.{putMid}
 use mir.Syntax.{w8}
 use mir.Val.{Fits}
@@ -13,14 +12,8 @@ use lib.Seq.{take-all, take-at, take-append-add, take-append-le, length-take-le}
 use Rattle.fields.specs.Bytes as fields
 use Rattle.blocks.specs.declared.block.Equalised.the-variants.{Bytes}
 use Rattle.eqfile.specs.Front.{carryOf}
-use Rattle.runs.specs.Program.{fromOf, Fetched}
+use Rattle.runs.specs.Program.{Fetched}
 use Rattle.fields.proofs.Numbers.{bytes-take}
-
-pub from-start : (front : List ℕ) (start at : ℕ) → at ≡ 0 → start ≡ fromOf front start at
-from-start front start at e = rw (eq-eqb at 0 e)
-
-pub from-end : (front : List ℕ) (start at : ℕ) → (at ≡ 0 → ⊥) → length front ≡ fromOf front start at
-from-end front start at n = rw (ne-eqb at 0 n)
 
 take-least : (n m : ℕ) (l : List ℕ) → n ≡ min (length l) m → take n l ≡ take m l
 take-least n m l e = by (decLt m (length l))

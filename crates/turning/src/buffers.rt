@@ -1,31 +1,31 @@
 // The buffers of a run.
-use answers::unit::BLOCK_LIMIT;
+use answers::unit::TURN_ROOM;
 use samples::Channels;
 ghost use mathlib.Core.Path.{_≡_};
 ghost use Prim.Native.Nat.{_*_};
 ghost use lib.ListN.{length, replicate};
-ghost use Rattle.answers.specs.Unit.{blockLimit};
+ghost use Rattle.answers.specs.Unit.{turnRoom};
 ghost use Rattle.samples.specs.Channels.{countOf};
 ghost use Rattle.octave.specs.Memory.{memoryLength};
 ghost use Rattle.arguments.specs.Arguments.{bands};
 
-// Three bytes for each sample of a block.
-const BYTES: usize = 3 * BLOCK_LIMIT;
+// Four bytes for each sample of a block: as many as a format has at most.
+const BYTES: usize = 4 * TURN_ROOM;
 // The memory length of eight bands and one channel.
 const ONE: usize = 8067;
 // .. and of two channels.
 const TWO: usize = 16131;
 
 // The samples of one block.
-pub fn samples() -> [i32; BLOCK_LIMIT]
-    ensures { λ r. ⌜ blockLimit ≡ length r ⌝ }
+pub fn samples() -> [i32; TURN_ROOM]
+    ensures { λ r. ⌜ turnRoom ≡ length r ⌝ }
 {
-    [0; BLOCK_LIMIT]
+    [0; TURN_ROOM]
 }
 
 // The bytes of one block, read or to be written.
 pub fn bytes() -> [u8; BYTES]
-    ensures { λ r. ⌜ r ≡ replicate (3 * blockLimit) 0 ⌝ }
+    ensures { λ r. ⌜ r ≡ replicate (4 * turnRoom) 0 ⌝ }
 {
     [0; BYTES]
 }

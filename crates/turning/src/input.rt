@@ -1,22 +1,14 @@
 // What standard input hands over. Nothing is known of those bytes.
 ghost use Prim.Native.Nat.{_≤_};
-ghost use mathlib.Core.Path.{_≡_};
 ghost use lib.ListN.{length, take};
 ghost use Rattle.fields.specs.Bytes.{Bytes};
-ghost use Rattle.runs.specs.Program.{Fetched, fromOf};
+ghost use Rattle.runs.specs.Program.{Fetched};
 
 // Fills the bytes from standard input, and answers how many came.
 pub fn fill(bytes: &mut [u8]) -> usize
     ensures { λ r. ⌜ r ≤ length (now (bytes .exit)) ⌝ }
 {
     io::read_full(libc::STDIN_FILENO, bytes)
-}
-
-// Where the bytes of the front begin that are not yet handed over: all are, once a turn was.
-pub fn from(front: &[u8], start: usize, at: usize) -> usize
-    ensures { λ r. ⌜ r ≡ fromOf (now (front .entry)) start at ⌝ }
-{
-    if at == 0 { start } else { front.len() }
 }
 
 // The data bytes that a turn wants: those of the front from a place on, then those of standard input. Answers how many there were.

@@ -9,15 +9,26 @@ use eqfile::Turn;
 use samples::channel_count;
 ghost use mathlib.Core.Path.{_≡_};
 ghost use Rattle.blocks.specs.declared.block.Equalised.the-variants.{Bytes, Refused};
-ghost use Rattle.runs.specs.Program.{blockDone};
-ghost use Rattle.turning.specs.Running.{stateAt, Running, Came, Further};
+ghost use Rattle.turning.specs.Running.{Running, Arrived, PutDone, Further};
 
 // What a turn comes to.
 pub enum Turned {
     // Where the run stands after it.
     On(Place),
+    // A sample of its block is no number: nothing of the block was handed over.
+    NotANumber,
     // Standard output took no more.
     OutputFailed,
+}
+
+// What the block of a turn comes to.
+pub enum Handed {
+    // It was handed over.
+    Taken,
+    // A sample is no number.
+    BadSample,
+    // Standard output took no more.
+    NotTaken,
 }
 
 // The bytes that the block of a turn stored. No block of a run is refused.
@@ -31,7 +42,7 @@ fn count(equalised: Equalised) -> usize
     }
 }
 
-// Equalises the block of a turn for which some bytes came, and hands over what it stores. Answers whether that was taken.
+// Equalises the block of a turn for which some bytes came, and hands over what it stores, if each sample is a number.
 fn put(
     job: Job,
     gains: &[i32],
@@ -40,9 +51,9 @@ fn put(
     memory: &mut [i32],
     turn: Turn,
     piece: &[u8],
-) -> bool
-    requires { ⌜ Came job (now gains) (now front) place (now memory) turn (now piece) ⌝ }
-    ensures { λ _. ⌜ now (memory .exit) ≡ blockDone (now (gains .entry)) (job .format) (job .channels) (job .frames) (stateAt place (now (memory .entry))) (now (piece .entry)) .lent .0 ⌝ }
+) -> Handed
+    requires { ⌜ Arrived job (now gains) (now front) place (now memory) turn (now piece) ⌝ }
+    ensures { λ r. ⌜ PutDone job (now (gains .entry)) (now (front .entry)) place (now (memory .entry)) (now (piece .entry)) r (now (memory .exit)) ⌝ }
 {
     let mut input = buffers::samples();
     let mut stored = buffers::bytes();
@@ -52,7 +63,9 @@ fn put(
     let skipped = sides * turn.skipped;
     let written = turn.written;
     let format = job.format;
-    eqfile::samples_from(piece, format, &mut input[..fed]);
+    if !eqfile::samples_from(piece, format, &mut input[..fed]) {
+        return Handed::BadSample;
+    }
     let n = count(blocks::equalise(
         memory,
         gains,
@@ -60,7 +73,10 @@ fn put(
         skipped,
         &mut stored[..written],
     ));
-    output::hand(&stored[..n], job, gains, front)
+    if output::hand(&stored[..n], job, gains, front) {
+        return Handed::Taken;
+    }
+    Handed::NotTaken
 }
 
 // The next turn of a run.
@@ -73,13 +89,13 @@ pub fn one_turn(job: Job, gains: &[i32], front: &[u8], place: Place, memory: &mu
     let turn = eqfile::next_turn(format, channels, job.frames, place.at, place.read);
     let mut bytes = buffers::bytes();
     let wanted = turn.wanted;
-    let from = input::from(front, job.start, place.at);
-    let got = input::fetch(front, from, &mut bytes[..wanted]);
-    if !put(job, gains, front, place, memory, turn, &bytes[..got]) {
-        return Turned::OutputFailed;
+    let got = input::fetch(front, job.start + place.read, &mut bytes[..wanted]);
+    match put(job, gains, front, place, memory, turn, &bytes[..got]) {
+        Handed::Taken => Turned::On(Place {
+            at: place.at + turn.fed,
+            read: place.read + got,
+        }),
+        Handed::BadSample => Turned::NotANumber,
+        Handed::NotTaken => Turned::OutputFailed,
     }
-    Turned::On(Place {
-        at: place.at + turn.fed,
-        read: place.read + got,
-    })
 }

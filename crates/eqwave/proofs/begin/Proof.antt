@@ -22,5 +22,4 @@ run-requires c κs =
 pub begin-spec : {M : Type 1} → statement M
 begin-spec =
     tie.close
-    (tie.spec (λ c κs. tt) (λ c. search needs) (λ c. search needs) (λ c κs. tt) (λ c κs. tt) (λ c. search needs) run-requires (λ c. search needs)
-    (λ c. search needs))
+    (tie.spec (λ c κs. tt) (λ c. search needs) (λ c κs. tt) (λ c. search needs) run-requires (λ c. search needs) (λ c. search needs))

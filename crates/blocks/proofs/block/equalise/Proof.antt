@@ -7,7 +7,7 @@ use lib.ListN.{length, take, length-replicate}
 use lib.Seq.{length-take-le}
 use lib.IntN.{ℤ, pos}
 use Rattle.answers.specs.Checks.{Done}
-use Rattle.answers.specs.Unit.{blockLimit}
+use Rattle.answers.specs.Unit.{turnRoom}
 use Rattle.answers.proofs.Branches.{judging, told-no, told-yes}
 use Rattle.octave.specs.Block.{blockOf}
 use Rattle.blocks.specs.Equalise.{zeros, blockFor, equaliseOf}
@@ -31,12 +31,12 @@ output-is : (c : tie.After-cleared) →
     take (length (c .before .before .before .before .args .input .now)) (c .cleared .result) ≡ zeros (now (c .before .before .before .before .args .input))
 output-is c =
     let n = length (c .before .before .before .before .args .input .now) in
-    ap (take n) (c .cleared .ensures) ∙ cleared-part n blockLimit (right c .short)
+    ap (take n) (c .cleared .ensures) ∙ cleared-part n turnRoom (right c .short)
 
 array-borrow-prefix-output : tie.Need-array-borrow-prefix-output
 array-borrow-prefix-output c =
     let r = c .before in
-    omega (arith, right r .short, ap length (r .cleared .ensures), length-replicate blockLimit (pos 0))
+    omega (arith, right r .short, ap length (r .cleared .ensures), length-replicate turnRoom (pos 0))
 
 -- the call, as if on the zeros alone
 call : (c : tie.After-block) →

@@ -3,7 +3,7 @@ use mathlib.Core.Path.{sym}
 use native.Mathlib.Omega.{arith}
 use denote.Ref.{now}
 use lib.Seq.{length-take-le}
-use Rattle.eqfile.proofs.WholeSamples.{end-within, part-fits, taken, joined}
+use Rattle.eqfile.proofs.WholeSamples.{end-within, part-fits, taken-yes, taken-no, not-taken, all-taken, joined}
 use borrow.Author.Needs.{needs}
 use Rattle.eqfile.proofs.data.samples_from.Statement.{statement}
 use Rattle.eqfile.proofs.data.samples_from.Tie as tie
@@ -30,20 +30,32 @@ slice-aggregate-bytes-to-samples-2 c =
 
 returns : tie.Need-returns
 returns c =
-    let clear = c .before in
-    let call = clear .before .before .before in
+    let call = c .before .before in
     let least = call .before .before .before in
     let size = least .before in
     let a = size .before .before .args in
-    joined (a .format) (now (a .bytes)) (now (a .samples)) (size .bytes-each .result) (least .least .result) (size .bytes-each .ensures .0) (least .least .ensures)
-    (call .bytes-to-samples .last .1 .1 .0) (clear .clear .last .0)
-    (taken (a .format) (now (a .bytes)) (now (a .samples)) (size .bytes-each .result) (least .least .result) (size .bytes-each .ensures .0) (least .least .ensures)
-    (call .bytes-to-samples .result) (call .bytes-to-samples .last .1 .1 .0) (call .bytes-to-samples .ensures))
-    (clear .clear .ensures)
+    let no = taken-no (a .format) (now (a .bytes)) (now (a .samples)) (size .bytes-each .result) (least .least .result) (size .bytes-each .ensures .0) (least .least .ensures)
+    (call .bytes-to-samples .result) (call .bytes-to-samples .last .1 .1 .0) (call .bytes-to-samples .ensures) (c .match .keys2) in
+    not-taken (a .format) (now (a .bytes)) (now (a .samples)) (size .bytes-each .result) (least .least .result) (size .bytes-each .ensures .0) (least .least .ensures)
+    (call .bytes-to-samples .last .1 .1 .0) (no .0) (no .1)
+
+returns-2 : tie.Need-returns-2
+returns-2 c =
+    let clear = c .before in
+    let told = c .before .before .before in
+    let call = told .before .before .before in
+    let least = call .before .before .before in
+    let size = least .before in
+    let a = size .before .before .args in
+    let yes = taken-yes (a .format) (now (a .bytes)) (now (a .samples)) (size .bytes-each .result) (least .least .result) (size .bytes-each .ensures .0) (least .least .ensures)
+    (call .bytes-to-samples .result) (call .bytes-to-samples .last .1 .1 .0) (call .bytes-to-samples .ensures) (told .enum-told .given .0 .0) (told .enum-told .given .1) in
+    all-taken (a .format) (now (a .bytes)) (now (a .samples)) (size .bytes-each .result) (least .least .result) (size .bytes-each .ensures .0) (least .least .ensures) _ (yes .0)
+    (joined (a .format) (now (a .bytes)) (now (a .samples)) (size .bytes-each .result) (least .least .result) (size .bytes-each .ensures .0) (least .least .ensures)
+    (call .bytes-to-samples .last .1 .1 .0) (clear .clear .last .0) (yes .1) (clear .clear .ensures))
 
 pub samples-from-spec : {M : Type 1} → statement M
 samples-from-spec =
     tie.close
     (tie.spec (λ c κs. search needs) (λ c. search needs) (λ c. search needs) (λ c κs. search needs) mul-end slice-aggregate-bytes-to-samples
-    (λ c. search needs) slice-aggregate-bytes-to-samples-2 (λ c κs. search needs) (λ c. search needs) (λ c. search needs) (λ c. search needs)
-    (λ c. search needs) (λ c κs. search needs) (λ c. search needs) returns)
+    (λ c. search needs) slice-aggregate-bytes-to-samples-2 (λ c κs. search needs) (λ c. search needs) (λ c. search needs) returns (λ c. search needs) (λ c. search needs)
+    (λ c. search needs) (λ c. search needs) (λ c κs. search needs) (λ c. search needs) returns-2)

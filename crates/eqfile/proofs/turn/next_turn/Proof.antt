@@ -1,7 +1,7 @@
 -- `turn::next_turn` meets its contract. Assumes nothing.
 use Prim.Native.Nat.{_-_, _*_, _≤_}
 use native.Mathlib.Omega.{arith}
-use Rattle.answers.specs.Unit.{blockLimit}
+use Rattle.answers.specs.Unit.{turnRoom}
 use Rattle.samples.specs.Channels.{countOf}
 use Rattle.wave_values.specs.Values.{frameSize}
 use Rattle.eqfile.proofs.Turns.{samples-most, turn-is}
@@ -11,12 +11,12 @@ use Rattle.eqfile.proofs.turn.next_turn.Tie as tie
 
 -- the samples that are written
 few : (c : tie.After-wanted) → let skipped = c .before in let fed = skipped .before .before in let n = fed .before .before .before in
-    n .channel-count .result * (fed .least .result - skipped .least2 .result) ≤ blockLimit
+    n .channel-count .result * (fed .least .result - skipped .least2 .result) ≤ turnRoom
 few c =
     let skipped = c .before in
     let fed = skipped .before .before in
     let n = fed .before .before .before in
-    samples-most (n .channel-count .result) (fed .least .result - skipped .least2 .result) (omega (arith, fed .least .ensures))
+    samples-most (n .channel-count .result) (fed .least .result - skipped .least2 .result) (omega (arith, n .channel-count .ensures .2)) (omega (arith, fed .least .ensures))
 
 returns : tie.Need-returns
 returns c =
@@ -35,5 +35,5 @@ returns c =
 pub next-turn-spec : {M : Type 1} → statement M
 next-turn-spec =
     tie.close
-    (tie.spec (λ c κs. search needs) (λ c. search needs) (λ c. search needs) (λ c κs. search needs) (λ c κs. search needs) (λ c κs. search needs)
+    (tie.spec (λ c κs. search needs) (λ c. search needs) (λ c κs. search needs) (λ c κs. search needs) (λ c κs. search needs)
     (λ c κs. search needs) (λ c κs. search needs) (λ c κs. search needs) (λ c. search needs) (λ c. omega (arith, few c)) (λ c. omega (arith, few c)) returns)
