@@ -1,5 +1,6 @@
 /*
- * octave_eq.h: the proved octave equaliser, its gain commands, the WAVE header and the sample codec, for C.
+ * octave_eq.h: the proved octave equaliser, its gain commands, the WAVE header and the sample codec, of bytes and of floats,
+ * for C.
  *
  * Link with libcapi.a (x86-64 Linux), which needs nothing but memset. No call allocates, keeps a state of its own or
  * calls back, and each comes back, whatever it is handed. Calls on different places may run at the same time. oeq_block
@@ -7,6 +8,7 @@
  *
  * NUMBERS
  *   sample   int32_t, -8,388,608 to 8,388,607: 24 bits, full scale at both ends.
+ *   float    a sample over 8,388,608, IEEE 754's binary32: 1.0 is one past the largest sample, -1.0 the smallest.
  *   gain     int32_t, 0 to 16,384; 4,096 is unity, so 16,384 is a factor of 4.
  *   bands    2 to 10. Gains and bands are counted from the lowest: gains[0] is the lowest band's.
  *   channels 1, or 2: left and right. A frame is one sample of each, left first; both sides have the same gains.
@@ -14,8 +16,8 @@
  *
  * ANSWERS
  *   Every call returns an int64_t. An accepted call returns its answer, which is never below -8,388,608. A refusal is
- *   INT64_MIN + number + 256 * place; the helpers below take it apart. The place is 0 but for refusal 8. The two never
- *   meet.
+ *   INT64_MIN + number + 256 * place; the helpers below take it apart. The place is 0 but for refusals 8 and 41.
+ *   The two never meet.
  *   A refused call has changed nothing that was lent to it. Where several faults are there, the number is that of the
  *   first in the order in which a call lists its refusals.
  *
@@ -74,7 +76,8 @@ enum {
     OEQ_WRITE_RATE = 28,     /* rate neither 44,100 nor 48,000 */
     OEQ_KEPT_COUNTS = 31,    /* memory too short to hold its counts, or one of them not allowed */
     OEQ_KEPT_LENGTH = 32,    /* memory length not that of the counts it holds */
-    OEQ_KEPT_POSITION = 33   /* the memory's position is outside its line */
+    OEQ_KEPT_POSITION = 33,  /* the memory's position is outside its line */
+    OEQ_NOT_NUMBER = 41      /* a float is NaN or infinite; of a block's, its place is the first one's index */
 };
 
 /* Whether an answer is a refusal. */
@@ -170,11 +173,11 @@ int64_t oeq_gain_off(void);
 /* ---- WAVE --------------------------------------------------------------------------------------------------------- */
 
 /*
- * Reads the header at the front of a PCM file of one or two channels.
+ * Reads the header at the front of a PCM file, or one of floats, of one or two channels.
  *
  *   front   the file's first 4,096 bytes, or the whole file if it is shorter; of more, the first 4,096 are judged
  *   found   five places, never NULL; written by an accepted call only:
- *           found[0] rate, 44,100 or 48,000 Hz; found[1] bits of a sample, 16 or 24;
+ *           found[0] rate, 44,100 or 48,000 Hz; found[1] bits of a sample, 16, 24 or 32, which is float;
  *           found[2] length of the samples in bytes; found[3] where they start, in bytes from the front's first;
  *           found[4] channels, 1 or 2
  *
@@ -182,9 +185,10 @@ int64_t oeq_gain_off(void);
  *
  * Returns 5, the number of places written.
  * Refuses: 21 front under 12 bytes or names wrong; then, as the chunks come: 22 `data` before any `fmt `; 23 `fmt ` of
- * another length than 16, with a wrong value, or a second one (right are tag 1, the channels, rates and bits above, a
- * block size of channels * bits / 8, a byte rate of rate * block size); 24 a chunk header or the contents of `fmt ` not
- * wholly in the front; 25 `data` length not a multiple of the block size.
+ * another length than 16 or 18, with a wrong value, or a second one (right are 16 bytes with tag 1 and 16 or 24 bits, or
+ * with tag 3 and 32 bits 16 bytes, or 18 of which the last two are 0; the channels and rates above, a block size of
+ * channels * bits / 8, a byte rate of rate * block size); 24 a chunk header or the contents of `fmt ` not wholly in the
+ * front; 25 `data` length not a multiple of the block size.
  */
 int64_t oeq_wave_read(const uint8_t *front, size_t front_length, uint32_t *found);
 
@@ -220,6 +224,38 @@ int64_t oeq_sample_from_bytes(const uint8_t *bytes, size_t bytes_length);
  * Returns 3, the number of bytes written. Refuses: 18 buffer not three bytes; 19 number out of range.
  */
 int64_t oeq_sample_to_bytes(int32_t sample, uint8_t *buffer, size_t buffer_length);
+
+/* ---- floats ------------------------------------------------------------------------------------------------------- */
+
+/*
+ * The sample of a float: 8,388,608 times the float, to the nearest, a tie away from zero, then limited to the sample
+ * range: 1.0 and above gives 8,388,607, -1.0 and below -8,388,608. -0.0 gives 0.
+ *
+ * Returns the sample, which may be negative: ask oeq_is_refusal, not its sign. Refuses: 41 NaN and infinities.
+ */
+int64_t oeq_sample_from_float(float value);
+
+/*
+ * The float of a sample: the sample over 8,388,608. Nothing is rounded, 0 is +0.0, and oeq_sample_from_float gives the
+ * sample back.
+ *
+ *   value   one place, never NULL; written by an accepted call only
+ *
+ * Returns 1, the number of places written. Refuses: 19 number out of range.
+ */
+int64_t oeq_sample_to_float(int32_t sample, float *value);
+
+/*
+ * The samples of floats: samples[i] is what oeq_sample_from_float gives of values[i].
+ *
+ *   values    as many as there are, fewer than 2^54
+ *   samples   as long as values; not the same places
+ *
+ * Returns the number of samples.
+ * Refuses: 6 samples not as long as values, or 2^54 values or more; 41 a NaN or an infinity, and oeq_refusal_place tells
+ * the first one's index in values.
+ */
+int64_t oeq_samples_from_floats(const float *values, size_t values_length, int32_t *samples, size_t samples_length);
 
 #ifdef __cplusplus
 }

@@ -2,16 +2,20 @@
 -- Assumes nothing.
 use mathlib.Core.Path.{_≡_, sym, ap, ap₂, _∙_}
 use mathlib.Core.List.{List}
-use Prim.Native.Nat.{ℕ}
+use Prim.Native.Nat.{ℕ, suc}
 use native.Mathlib.Omega.{arith}
 use lib.IntN.{ℤ}
+use lib.Ieee.{Float, nan}
 use Rattle.answers.specs.Answer.{Answer, accepted, refused, numberIn, placeIn}
+use Rattle.answers.specs.First.{FirstFails}
 use Rattle.answers.specs.Range.{FirstAt}
 use Rattle.answers.specs.Unit.{leastSample, mostSample}
 use Rattle.octave.specs.Answer.{lengthAnswer, preparedAnswer, blockAnswer}
 use Rattle.octave.specs.Block.{blockOf}
 use Rattle.octave.specs.Memory.{memoryLengthOf, prepareOf}
 use Rattle.octave.proofs.Refusals.{first-bad}
+use Rattle.floats.specs.Value.{floatSample, floatAnswer, toFloat, floatedAnswer}
+use Rattle.floats.specs.Block.{isNumber, floatBlockAnswer}
 use Rattle.gain.specs.Answer.{answerOf}
 use Rattle.gain.specs.Promise.{commandGain}
 use Rattle.gain.specs.declared.Command.{Command}
@@ -20,10 +24,13 @@ use Rattle.samples.specs.Sample.{fromBytes, toBytes, sampleAnswer, putAnswer}
 use Rattle.wave.specs.Walk.{readOf}
 use Rattle.encoding.specs.Answers.{ofCount}
 use Rattle.encoding.specs.Encode.{encode, decode}
+use Rattle.parts.specs.Floated.{ofFloated}
 use Rattle.parts.specs.Found.{ofFound}
 use Rattle.encoding.specs.Parts.{Returnable, Counted}
 use Rattle.encoding.proofs.Decoded.{decode-encode}
 use Rattle.encoding.proofs.Encoding.{returnable-apart, counted-apart}
+use Rattle.capi.proofs.Floats.{float-returnable, floated-counted, floats-counted, first-in-c}
+use Rattle.capi.specs.FloatBlock.{floatsInC}
 use Rattle.capi.proofs.Reading.{read-counted}
 use Rattle.capi.proofs.Returnable.{length-counted, prepare-counted, block-counted, gain-returnable, write-counted, sample-returnable, put-counted}
 
@@ -47,15 +54,15 @@ pub block-decoded : (memory gains input output : List ℤ) → Decoded (ofCount 
 block-decoded memory gains input output = count-decoded (blockAnswer (blockOf memory gains input output .result)) (block-counted memory gains input output)
 
 -- a count's refusal is the call's own
-refused-count : (a : Answer ℕ) (i : ℕ) → ofCount a ≡ refused 8 i → a ≡ refused 8 i
-refused-count (accepted n) i e = absurd (omega (arith, ap numberIn e))
-refused-count (refused number place) i e = ap₂ (λ (n p : ℕ). refused n p) (ap numberIn e) (ap placeIn e)
+refused-count : (a : Answer ℕ) (k i : ℕ) → ofCount a ≡ refused (suc k) i → a ≡ refused (suc k) i
+refused-count (accepted n) k i e = absurd (omega (arith, ap numberIn e))
+refused-count (refused number place) k i e = ap₂ (λ (n p : ℕ). refused n p) (ap numberIn e) (ap placeIn e)
 
 -- rule 12.4: 8 and a place decoded: at that place there is a bad sample, before it none
 pub place-told : (memory gains input output : List ℤ) (i : ℕ) → decode (encode (ofCount (blockAnswer (blockOf memory gains input output .result)))) ≡ refused 8 i →
     FirstAt leastSample mostSample input i
 place-told memory gains input output i e =
-    first-bad memory gains input output i (refused-count (blockAnswer (blockOf memory gains input output .result)) i (sym (block-decoded memory gains input output) ∙ e))
+    first-bad memory gains input output i (refused-count (blockAnswer (blockOf memory gains input output .result)) 7 i (sym (block-decoded memory gains input output) ∙ e))
 
 pub gain-decoded : (c : Command) → Decoded (answerOf (commandGain c))
 gain-decoded c = decoded (answerOf (commandGain c)) (gain-returnable c)
@@ -71,3 +78,21 @@ sample-decoded bytes = decoded (sampleAnswer (fromBytes bytes)) (sample-returnab
 
 pub put-decoded : (z : ℤ) (buffer : List ℕ) → Decoded (ofCount (putAnswer (toBytes z buffer .result)))
 put-decoded z buffer = count-decoded (putAnswer (toBytes z buffer .result)) (put-counted z buffer)
+
+-- the sample of a float
+pub float-decoded : (x : Float) → Decoded (floatAnswer (floatSample x))
+float-decoded x = decoded (floatAnswer (floatSample x)) (float-returnable x)
+
+-- the float of a sample, as the number of places
+pub floated-decoded : (z : ℤ) → Decoded (ofCount (ofFloated (floatedAnswer (toFloat z))))
+floated-decoded z = count-decoded (ofFloated (floatedAnswer (toFloat z))) (floated-counted z)
+
+-- the samples of floats
+pub floats-decoded : (values : List Float) (samples : List ℤ) → Decoded (ofCount (floatBlockAnswer (floatsInC values samples .result)))
+floats-decoded values samples = count-decoded (floatBlockAnswer (floatsInC values samples .result)) (floats-counted values samples)
+
+-- rule 12.4: 41 and a place decoded: at that place there is a NaN or an infinity, before it none
+pub float-place-told : (values : List Float) (samples : List ℤ) (i : ℕ) → decode (encode (ofCount (floatBlockAnswer (floatsInC values samples .result)))) ≡ refused 41 i →
+    FirstFails isNumber nan values i
+float-place-told values samples i e =
+    first-in-c values samples i (refused-count (floatBlockAnswer (floatsInC values samples .result)) 40 i (sym (floats-decoded values samples) ∙ e))

@@ -1,3 +1,4 @@
+pub mod Floats
 pub mod Returnable
 pub mod Reading
 pub mod Calls

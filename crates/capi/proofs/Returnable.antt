@@ -37,7 +37,6 @@ use Rattle.fields.specs.Bytes.{lowest, numberIn, row}
 use Rattle.fields.proofs.ByTest.{cond-case}
 use Rattle.wave_writer.specs.Header.{header, writeChecks, writeOf, writeAnswer}
 use Rattle.samples.specs.Sample.{codeOf, numberOf, sampleIn, fromBytes, putChecks, toBytes, sampleAnswer, putAnswer}
-use Rattle.samples.specs.declared.format.Format.{Format}
 use Rattle.samples.specs.declared.format.Format.the-variants.{Bits16, Bits24}
 use Rattle.samples.specs.declared.single.Put.{Put}
 use Rattle.samples.specs.declared.single.Put.the-variants.{Done}
@@ -101,13 +100,16 @@ not-far x h = by (x .z) (omega (arith, x .same, about (x .z)))
     by (pos n) h = refl
     by (negsuc n) h = le-ltb 4611686018427387903 n (omega arith)
 
-sample-near : (f : Format) (s : List ℕ) → ltZ (sampleIn f s) halfway ≡ false
+near-16 : (s : List ℕ) → ltZ (sampleIn Bits16 s) halfway ≡ false
 unfolding sampleIn numberOf
-sample-near Bits16 s =
+near-16 s =
     let k : ℕ = numberIn lowest s in
     cond-case (λ (z : ℤ). ltZ (z *ℤ pos 256) halfway ≡ false) (pos k) (pos k -ℤ pos (2 ^ 16)) (ltb k (2 ^ 15))
     (λ _. not-far (lit k ⊗ lit 256) (omega arith)) (λ _. not-far ((lit k ⊖ lit (2 ^ 16)) ⊗ lit 256) (omega arith))
-sample-near Bits24 s =
+
+near-24 : (s : List ℕ) → ltZ (sampleIn Bits24 s) halfway ≡ false
+unfolding sampleIn numberOf
+near-24 s =
     let k : ℕ = numberIn lowest s in
     cond-case (λ (z : ℤ). ltZ z halfway ≡ false) (pos k) (pos k -ℤ pos (2 ^ 24)) (ltb k (2 ^ 23))
     (λ _. refl) (λ _. not-far (lit k ⊖ lit (2 ^ 24)) (omega arith))
@@ -115,8 +117,8 @@ sample-near Bits24 s =
 pub sample-returnable : (s : List ℕ) → Returnable (sampleAnswer (fromBytes s))
 unfolding fromBytes
 sample-returnable s =
-    cond-case P _ _ (eqb (length s) 2) (λ _. sample-near Bits16 s)
-    (λ _. cond-case P _ _ (eqb (length s) 3) (λ _. sample-near Bits24 s) (λ _. search lit<))
+    cond-case P _ _ (eqb (length s) 2) (λ _. near-16 s)
+    (λ _. cond-case P _ _ (eqb (length s) 3) (λ _. near-24 s) (λ _. search lit<))
   where
     P : Sample → Type 0
     P r = Returnable (sampleAnswer r)

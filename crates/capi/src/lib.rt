@@ -2,5 +2,6 @@
 // answer. None has a `requires`: C callers prove nothing.
 mod codec;
 mod equaliser;
+mod float_codec;
 mod gains;
 mod headers;
