@@ -1,91 +1,33 @@
 #!/usr/bin/env python3
-"""Runs the program that is built for what its stored run does not see: standard error, refusals, pipes, long files.
+"""Runs the program that is built for what its stored run does not see: standard error, refusals, pipes, long files, floats.
 
 Each expected byte is the model's. Exits with 1 if anything differs, or if the program was not built before. `--stored` writes the stored run."""
 import os
 import random
-import resource
 import subprocess
 import sys
 import tempfile
 import time
 
-from model.compiled import Tree
-from model.gains import GAINS
+import eqwave_blocks
+import eqwave_floats
+import runs
+from model import program
+from model.floats import check_floats
 from model.wave import LARGEST, WHOLE, chunk, file24, fmt, read, riff, write
+from runs import BITS, PROGRAM, SIDES, TOP, ZERO
+from runs import as_wanted, equalised, expect, format_of, gains_of, interleaved, noise, refused, run, run_limited, run_slowly
+from runs import samples, settings, wanted, widened
 
-TOP = os.path.join(os.path.dirname(os.path.abspath(__file__)), "..")
-PROGRAM = os.path.join(TOP, "eqwave")
 BUILT = os.path.join(TOP, "target", "bin", "eqwave")
 STORED = os.path.join(TOP, "crates", "eqwave")
 FILES = os.path.join(TOP, "tests", "files")
 EXAMPLE = os.path.join(TOP, "examples", "chirp.wav")
-ZERO = ["0"] * 8
-SIDES = (1, 2)
 LONG_SECONDS = 300  # of one channel; half as long of two
-failures = []
-cases = 0
-
-
-def run(args, source):
-    """What the program writes, and what it says."""
-    done = subprocess.run([PROGRAM] + args, input=source, stdout=subprocess.PIPE, stderr=subprocess.PIPE, timeout=300)
-    return done.stdout, done.stderr
-
-
-def expect(name, got, want):
-    """Two (standard output, standard error) pairs are the same."""
-    global cases
-    cases += 1
-    for part, a, b in zip(("standard output", "standard error"), got, want):
-        if a != b:
-            at = next((i for i, (x, y) in enumerate(zip(a, b)) if x != y), min(len(a), len(b)))
-            failures.append(name)
-            print(f"DIFFERS {name}: {part} has {len(a)} bytes, wanted {len(b)}; first at {at}: {a[at:at + 24]!r}, wanted {b[at:at + 24]!r}")
-
-
-def refused(name, args, source, number):
-    """The program refuses with this number."""
-    expect(name, run(args, source), (b"", b"refused %d\n" % number))
-
-
-def reckon(args, data, channels=1):
-    """What the program has to make of frames of 24-bit samples."""
-    return TREE.outputs([GAINS[int(a)] for a in args], data, channels)
-
-
-def equalised(args, data, channels=1, rate=48000):
-    """The file that the program has to write for frames of 24-bit samples."""
-    return file24(reckon(args, data, channels), rate, channels)
-
-
-def samples(count, rng):
-    """Random 24-bit samples with both ends of the range among them."""
-    data = bytearray(rng.randbytes(3 * count))
-    for end in (b"\xff\xff\x7f", b"\x00\x00\x80"):
-        if count:
-            at = 3 * rng.randrange(count)
-            data[at:at + 3] = end
-    return bytes(data)
-
-
-def settings(rng):
-    """Eight arguments."""
-    return [str(rng.randint(-24, 24)) for _ in range(8)]
-
-
-def widened(data):
-    """16-bit samples as 24-bit ones."""
-    return b"".join(b"\0" + data[i:i + 2] for i in range(0, len(data), 2))
-
-
-def interleaved(left, right):
-    """Frames of two sides of 24-bit samples."""
-    return b"".join(left[i:i + 3] + right[i:i + 3] for i in range(0, len(left), 3))
 
 
 def stored():
-    """The stored run: its arguments, its input and the model's output. It has two turns, both read data, and a pad follows."""
+    """The stored run: its arguments, its input and the model's output. It has 23 blocks, 18 of them read data, and a pad follows."""
     args = ["24", "-12", "0", "7", "-1", "0", "12", "24"]
     data = random.Random(4501).randbytes(2 * 4501)
     output = equalised(args, widened(data), rate=44100)
@@ -102,8 +44,25 @@ def stored_run(write):
                 expect(f"the stored run's {name}", (file.read(), b""), (want, b""))
 
 
+def runs_agree(name, source, rng):
+    """The model's run at once is its run block by block."""
+    args = settings(rng)
+    expect(f"the models on {name}", wanted(args, source), program.by_blocks(gains_of(args), source))
+
+
 def models_agree(rng):
-    expect("the trees in C and in Python", (bytes(TREE.differs(rng)), b""), (b"", b""))
+    """The trees in C and in Python; the runs, of data that breaks off and of floats that stop them too."""
+    check_floats()
+    expect("the trees in C and in Python", (bytes(runs.TREE.differs(rng)), b""), (b"", b""))
+    for channels in SIDES:
+        for bits in BITS:
+            data = noise(bits, channels * 1501, rng)
+            runs_agree(f"{bits} bits of {channels}", riff(format_of(bits, channels), chunk(b"data", data)), rng)
+            runs_agree(f"{bits} bits of {channels}, cut", riff(format_of(bits, channels), chunk(b"data", data[:-5], len(data))), rng)
+        for frame in (255, 1142, 1280, 1600):
+            source = eqwave_floats.spoiled(channels, [(frame, channels - 1)], iter(eqwave_floats.BAD), rng)
+            runs_agree(f"a bad float in frame {frame} of {channels}", source, rng)
+        runs_agree(f"half of a bad float of {channels}", source[:-110], rng)
 
 
 def whole_case():
@@ -121,8 +80,9 @@ def example():
 
 
 def zero_gives_back(rng):
-    for channels, counts in ((1, (2953, 4095, 4096, 4097)), (2, (905, 2047, 2048, 2049, 2953, 4096))):
-        for frames in (0, 1, 1142, 1143, 1144, *counts, 9000, rng.randrange(20000)):
+    # with 137 frames and 1,143 of zeros the last block is full, as with 2,953
+    for channels in SIDES:
+        for frames in (0, 1, 136, 137, 138, 255, 256, 257, 1142, 1143, 1144, 1280, 2953, 4096, 9000, rng.randrange(20000)):
             for rate in (44100, 48000):
                 source = file24(samples(channels * frames, rng), rate, channels)
                 expect(f"all 0, {frames} frames of {channels} at {rate}", run(ZERO, source), (source, b""))
@@ -189,10 +149,11 @@ def headers():
 def longest():
     """The longest data that can be written, and one frame more: 26. What is accepted is seen by the header, and then the pipe is closed."""
     for channels in SIDES:
-        for bits in (16, 24):
-            frames = LARGEST // (3 * channels)
-            source = lambda count: riff(fmt(bits=bits, channels=channels), chunk(b"data", b"", channels * bits // 8 * count))
-            refused(f"one frame of {channels} too many, {bits} bits", ZERO, source(frames + 1), 26)
+        for bits in BITS:
+            frames = min(LARGEST // (3 * channels), (2**32 - 1) // (channels * bits // 8))
+            source = lambda count: riff(format_of(bits, channels), chunk(b"data", b"", channels * bits // 8 * count))
+            if bits < 32:  # floats of any length are written in fewer bytes
+                refused(f"one frame of {channels} too many, {bits} bits", ZERO, source(frames + 1), 26)
             child = subprocess.Popen([PROGRAM] + ZERO, stdin=subprocess.PIPE, stdout=subprocess.PIPE, stderr=subprocess.PIPE)
             child.stdin.write(source(frames))
             child.stdin.close()
@@ -234,25 +195,24 @@ def odd_data(rng):
 
 
 def kept_files(rng):
-    """The files of tests/files: those of sox and ffmpeg, and the edge cases of the reader; but not where hours of data are said to follow."""
+    """The files of tests/files: those of other tools, and the edge cases of the reader; but not where hours of data are said to follow."""
+    kept = {}
     for name in sorted(name for name in os.listdir(FILES) if name.endswith(".wav")):
         with open(os.path.join(FILES, name), "rb") as file:
-            source = file.read()
-        found, args = read(source), settings(rng)
-        if isinstance(found, int):
-            refused(name, args, source, found)
-            continue
-        rate, bits, length, start, channels = found
-        data = source[start:start + length]
-        if len(data) == length:
-            expect(name, run(args, source), (equalised(args, data if bits == 24 else widened(data), channels, rate), b""))
-        if bits == 24 and name.startswith("sox-"):
+            kept[name] = file.read()
+    for name, source in kept.items():
+        found = read(source)
+        if isinstance(found, int) or found[2] + found[3] <= len(source):
+            as_wanted(name, settings(rng), source)
+        if not isinstance(found, int) and found[1] == 24 and name.startswith("sox-"):
             expect(f"{name} given back", run(ZERO, source), (source, b""))
+        if "-float-of-" in name:
+            expect(f"{name} as 24 bits", run(ZERO, source), (kept["sox-" + name.split("-float-of-")[1]], b""))
 
 
 def sixteen_bits(rng):
     for channels in SIDES:
-        for frames in (0, 1, 5000):
+        for frames in (0, 1, 255, 256, 257, 5000):
             data = rng.randbytes(2 * channels * frames)
             wide = widened(data)
             source = riff(fmt(44100, 16, channels=channels), chunk(b"data", data))
@@ -285,18 +245,17 @@ def two_sides(rng):
 
 def short_data(rng):
     """Data that breaks off anywhere in a frame: of two channels the left sample may be wholly there and the right one not."""
-    for channels, all_frames, frames in ((1, 6001, (0, 1, 3, 1365, 1366, 4096, 5000)), (2, 6000, (0, 1, 675, 1013, 2047, 2048, 5000))):
-        for bits in (16, 24):
+    for channels, all_frames, frames in ((1, 6001, (0, 1, 255, 256, 1366, 1535, 5000)), (2, 6000, (0, 1, 255, 256, 675, 1536, 5000))):
+        for bits in BITS:
             size = bits // 8
             for whole in frames:
                 for part in range(channels * size):
-                    there = rng.randbytes(channels * size * whole + part)
+                    there = noise(bits, channels * (whole + 1), rng)[:channels * size * whole + part]
                     said = channels * size * all_frames
-                    source = riff(fmt(48000, bits, channels=channels), chunk(b"data", there, said))
-                    full = [there[i:i + size] for i in range(0, len(there) - size + 1, size)]
-                    wide = b"".join(s if bits == 24 else b"\0" + s for s in full) + b"\0\0\0" * (all_frames * channels - len(full))
+                    source = riff(format_of(bits, channels), chunk(b"data", there, said))
                     args = settings(rng)
-                    want = (equalised(args, wide, channels), b"short %d\n" % (said - len(there)))
+                    want = wanted(args, source)
+                    assert len(want[0]) == 44 + 3 * channels * all_frames + all_frames % 2 and want[1] == b"short %d\n" % (said - len(there))
                     expect(f"{bits} bits short at {whole} frames of {channels} and {part} bytes", run(args, source), want)
         frame = bytes(3 * channels)
         source = riff(fmt(channels=channels), chunk(b"data", b"", len(frame)))
@@ -309,12 +268,7 @@ def short_data(rng):
 def slow_pipe(rng):
     stereo = [(file24(samples(2 * frames, rng), channels=2), step) for frames, step in ((1, 1), (701, 1), (10001, 997))]
     for source, step in ((WHOLE, 1), (file24(samples(701, rng)), 1), (file24(samples(20001, rng)), 997), *stereo):
-        child = subprocess.Popen([PROGRAM] + ZERO, stdin=subprocess.PIPE, stdout=subprocess.PIPE, stderr=subprocess.PIPE, bufsize=0)
-        for i in range(0, len(source), step):
-            child.stdin.write(source[i:i + step])
-            if i < 64:
-                time.sleep(0.001)
-        expect(f"{len(source)} bytes by {step} through a pipe", child.communicate(), (source, b""))
+        expect(f"{len(source)} bytes by {step} through a pipe", run_slowly(ZERO, source, step), (source, b""))
 
 
 def output_fails(rng):
@@ -338,12 +292,8 @@ def output_fails(rng):
         expect("a pipe that closes midway", (first, said), (source[:44], line + b"Broken pipe\n"))
     # a file that may not grow by the pad: the last sample is written, and `short` is not said
     odd = file24(samples(5, rng))
-    few = lambda: resource.setrlimit(resource.RLIMIT_FSIZE, (len(odd) - 1, len(odd) - 1))
-    with tempfile.TemporaryFile() as file:
-        cut = riff(fmt(), chunk(b"data", odd[44:58], 15))
-        said = subprocess.run([PROGRAM] + ZERO, input=cut, stdout=file, stderr=subprocess.PIPE, preexec_fn=few, restore_signals=False, timeout=60).stderr
-        file.seek(0)
-        expect("no room for the pad", (file.read(), said), (odd[:56] + bytes(3), line + b"File too large\n"))
+    cut = riff(fmt(), chunk(b"data", odd[44:58], 15))
+    expect("no room for the pad", run_limited(ZERO, cut, len(odd) - 1), (odd[:56] + bytes(3), line + b"File too large\n"))
 
 
 def memory_of(child):
@@ -375,17 +325,16 @@ def long_file(rng, folder, channels):
 
 
 def main():
-    global TREE
     if sys.argv[1:] == ["--stored"]:
         with tempfile.TemporaryDirectory() as folder:
-            TREE = Tree(folder)
+            runs.build(folder)
             stored_run(True)
         return 0
     seed = int(sys.argv[1]) if len(sys.argv) > 1 else 20261115
     rng = random.Random(seed)
     built = os.stat(BUILT)
     with tempfile.TemporaryDirectory() as folder:
-        TREE = Tree(folder)
+        runs.build(folder)
         models_agree(rng)
         stored_run(False)
         whole_case()
@@ -403,11 +352,13 @@ def main():
         short_data(rng)
         slow_pipe(rng)
         output_fails(rng)
+        eqwave_blocks.all_of(rng)
+        eqwave_floats.all_of(rng)
         for channels in SIDES:
             long_file(rng, folder, channels)
     expect("no second build", (str(os.stat(BUILT).st_mtime_ns), ""), (str(built.st_mtime_ns), ""))
-    print(f"eqwave: seed {seed}, {cases} cases, {len(failures)} differ")
-    return 1 if failures else 0
+    print(f"eqwave: seed {seed}, {len(runs.tried)} cases, {len(runs.failures)} differ")
+    return 1 if runs.failures else 0
 
 
 if __name__ == "__main__":

@@ -12,13 +12,28 @@ static const char *last_part(const char *path)
     return slash ? slash + 1 : path;
 }
 
+/* A sample of two, three or four bytes, the last of these a float. */
+static int64_t sample_from(const uint8_t *bytes, size_t size)
+{
+    float value;
+    if (size != sizeof value)
+        return oeq_sample_from_bytes(bytes, size);
+    memcpy(&value, bytes, sizeof value);
+    return oeq_sample_from_float(value);
+}
+
 /* The samples that are wholly there, at most MOST. */
 static void show_samples(const uint8_t *data, size_t there, uint32_t bits)
 {
     size_t size = bits / 8;
     printf("samples");
-    for (size_t i = 0; i < MOST && (i + 1) * size <= there; i++)
-        printf(" %lld", (long long)oeq_sample_from_bytes(data + i * size, size));
+    for (size_t i = 0; i < MOST && (i + 1) * size <= there; i++) {
+        int64_t answer = sample_from(data + i * size, size);
+        if (oeq_is_refusal(answer))
+            printf(" refused-%d", oeq_refusal_number(answer));
+        else
+            printf(" %lld", (long long)answer);
+    }
     printf("\n");
 }
 

@@ -1,7 +1,8 @@
 """Prints the lines that the program gain_readings has to write, worked out by the model."""
 from fractions import Fraction
 
-from model.gains import SIGN, decibels, factor, pattern
+from model.floats import SIGN, pattern
+from model.gains import decibels, factor
 from words import told
 
 SUBNORMAL, INFINITY, NAN = 0x007FFFFF, 0x7F800000, 0x7FC00000

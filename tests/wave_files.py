@@ -25,7 +25,7 @@ def show(name, data):
     rate, bits, length, start, channels = answer
     print(name, rate, bits, length, start, channels)
     there = data[:ROOM][start : start + length]
-    print(*["samples", *samples(there, bits)[:MOST]])
+    print(*["samples", *("refused-41" if z is None else z for z in samples(there, bits)[:MOST])])
     header = write(44, rate, length, channels)
     print("header", f"refused {header}" if isinstance(header, int) else header.hex())
 

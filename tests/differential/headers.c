@@ -20,21 +20,32 @@ static uint32_t number_at(const uint8_t *s, size_t bytes)
     return n;
 }
 
-static int right_values(const uint8_t *fmt)
+/* 16 or 24 bits with tag 1 in 16 bytes; 32 bits with tag 3 in 16 bytes, or in 18 of which the last two are 0. */
+static int right_format(const uint8_t *fmt, uint32_t size)
 {
-    uint32_t channels = number_at(fmt + 2, 2), rate = number_at(fmt + 4, 4), block = number_at(fmt + 12, 2), bits = number_at(fmt + 14, 2);
-    return number_at(fmt, 2) == 1 && (channels == 1 || channels == 2) && (rate == 44100 || rate == 48000)
-        && (bits == 16 || bits == 24) && block == channels * bits / 8 && number_at(fmt + 8, 4) == rate * block;
+    uint32_t tag = number_at(fmt, 2), bits = number_at(fmt + 14, 2);
+    if (tag == 1)
+        return size == 16 && (bits == 16 || bits == 24);
+    return tag == 3 && bits == 32 && (size == 16 || number_at(fmt + 16, 2) == 0);
 }
 
-/* Fronts refused with a number; fronts accepted, by channels and bytes of a sample, and those with a chunk of odd length before `data`. */
-static long refused[32], accepted[3][4], passed;
+static int right_values(const uint8_t *fmt, uint32_t size)
+{
+    uint32_t channels = number_at(fmt + 2, 2), rate = number_at(fmt + 4, 4), block = number_at(fmt + 12, 2), bits = number_at(fmt + 14, 2);
+    return right_format(fmt, size) && (channels == 1 || channels == 2) && (rate == 44100 || rate == 48000)
+        && block == channels * bits / 8 && number_at(fmt + 8, 4) == rate * block;
+}
+
+/* Fronts refused with a number; fronts accepted, by channels and bytes of a sample, those with a `fmt ` of 18, and those with a chunk of odd
+   length before `data`. */
+static long refused[32], accepted[3][5], longer, passed;
 
 /* The refusal number, or 0 and what was found. */
 static int model_read(const uint8_t *front, size_t length, uint32_t found[FOUND])
 {
     uint64_t at = 12;
-    int have_format = 0, odd = 0;
+    uint32_t have_format = 0;
+    int odd = 0;
     if (length > 4096)
         length = 4096;
     if (length < 12 || memcmp(front, "RIFF", 4) != 0 || memcmp(front + 8, "WAVE", 4) != 0)
@@ -45,13 +56,13 @@ static int model_read(const uint8_t *front, size_t length, uint32_t found[FOUND]
         const uint8_t *chunk = front + at;
         uint32_t size = number_at(chunk + 4, 4);
         if (memcmp(chunk, "fmt ", 4) == 0) {
-            if (size != 16)
+            if (size != 16 && size != 18)
                 return 23;
-            if (at + 24 > length)
+            if (at + 8 + size > length)
                 return 24;
-            if (have_format || !right_values(chunk + 8))
+            if (have_format || !right_values(chunk + 8, size))
                 return 23;
-            have_format = 1;
+            have_format = size;
             found[0] = number_at(chunk + 12, 4);
             found[1] = number_at(chunk + 22, 2);
             found[4] = number_at(chunk + 10, 2);
@@ -63,6 +74,7 @@ static int model_read(const uint8_t *front, size_t length, uint32_t found[FOUND]
             found[2] = size;
             found[3] = (uint32_t)at + 8;
             passed += odd;
+            longer += have_format == 18;
             return 0;
         }
         odd |= size & 1;
@@ -96,28 +108,35 @@ static size_t put_number(uint8_t *s, uint32_t n, size_t bytes)
     return bytes;
 }
 
+/* A format; now and then with the other tag, with another length, or with something in the two bytes behind the bits. */
 static size_t put_format(uint8_t *s)
 {
-    uint32_t rate = random_bits() & 1 ? 44100 : 48000, bits = random_bits() & 1 ? 16 : 24;
+    uint32_t rate = random_bits() & 1 ? 44100 : 48000, bits = 16 + 8 * random_below(3), tag = bits == 32 ? 3 : 1;
+    uint32_t size = bits == 32 && random_bits() & 1 ? 18 : 16, behind = random_below(8) ? 0 : 1u << random_below(16);
+    if (random_below(16) == 0)
+        tag = 4 - tag;
+    if (random_below(16) == 0)
+        size = random_bits() & 1 ? 34 - size : 14 + random_below(8);
     uint32_t channels = random_below(32) ? 1 + random_below(2) : random_below(300), counted = random_below(32) ? channels : 3 - channels;
     memcpy(s, "fmt ", 4);
-    put_number(s + 4, 16, 4);
-    put_number(s + 8, 1, 2);
+    put_number(s + 4, size, 4);
+    put_number(s + 8, tag, 2);
     put_number(s + 10, channels, 2);
     put_number(s + 12, rate, 4);
     put_number(s + 16, rate * (random_below(32) ? counted : 3 - counted) * (bits / 8), 4);
     put_number(s + 20, counted * (bits / 8), 2);
     put_number(s + 22, bits, 2);
-    return 24;
+    put_number(s + 24, behind, 2);
+    return 8 + (size_t)padded(size);
 }
 
 static size_t put_data(uint8_t *s)
 {
     uint32_t size = (uint32_t)random_bits();
     if (random_below(4))
-        size -= size % 12;
+        size -= size % 24;
     if (random_below(4) == 0)
-        size = random_below(13);
+        size = random_below(25);
     memcpy(s, "data", 4);
     return 4 + put_number(s + 4, size, 4);
 }
@@ -259,8 +278,9 @@ void headers(int rounds)
     for (int number = 21; number <= 25; number++)
         CHECK(refused[number] > 0, "no front was refused %d", number);
     CHECK(passed > 0, "no chunk of odd length was passed over");
+    CHECK(longer > 0, "no `fmt ` of 18 was accepted");
     for (int channels = 1; channels <= 2; channels++)
-        for (int bytes = 2; bytes <= 3; bytes++)
+        for (int bytes = 2; bytes <= 4; bytes++)
             CHECK(accepted[channels][bytes] > 0, "no front of %d channels, %d bytes a sample was accepted", channels, bytes);
     writer(rounds);
 }

@@ -31,6 +31,8 @@ int main(int argc, char **argv)
     bad_samples();
     gain_commands(8000000L * more);
     samples();
+    float_calls(1000000L * more);
+    float_blocks(2000 * more);
     headers(100000 * more);
     return 0;
 }

@@ -10,6 +10,8 @@ void block_refusals(int rounds);
 void bad_samples(void);         /* one at every place of a block, and more behind it */
 void gain_commands(long patterns);
 void samples(void);
+void float_calls(long patterns); /* floats of every exponent, every tie, every sample as a float, any patterns */
+void float_blocks(int rounds);
 void headers(int rounds);
 
 #endif

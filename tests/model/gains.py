@@ -1,33 +1,7 @@
 """The gain commands, on floats as their bits."""
 from fractions import Fraction
 
-SIGN = 1 << 31
-
-
-def value(bits):
-    """The number that a binary32 pattern stands for, or None for a NaN and an infinity."""
-    sign = -1 if bits & SIGN else 1
-    exponent = bits >> 23 & 255
-    digits = bits & (1 << 23) - 1
-    if exponent == 255:
-        return None
-    if exponent == 0:
-        return sign * Fraction(digits, 1 << 149)
-    return sign * Fraction((1 << 23) + digits) * Fraction(2) ** (exponent - 150)
-
-
-def pattern(number):
-    """The pattern of a number that binary32 holds: not negative, and 0 or normal."""
-    if number == 0:
-        return 0
-    exponent = 127
-    while number >= 2:
-        number, exponent = number / 2, exponent + 1
-    while number < 1:
-        number, exponent = number * 2, exponent - 1
-    digits = (number - 1) * (1 << 23)
-    assert digits.denominator == 1 and 0 < exponent < 255
-    return exponent << 23 | digits.numerator
+from model.floats import value
 
 
 def entry(n):

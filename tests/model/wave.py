@@ -1,6 +1,8 @@
 """WAVE files: building them, reading their header, and the sample codec."""
 import struct
 
+from model.floats import sample_of
+
 RATES = (44100, 48000)
 
 
@@ -14,11 +16,16 @@ def chunk(name, contents, size=None):
     return name + struct.pack("<I", size) + contents
 
 
-def fmt(rate=48000, bits=24, tag=1, channels=1, block=None, byte_rate=None):
-    """A `fmt ` chunk."""
+def fmt(rate=48000, bits=24, tag=1, channels=1, block=None, byte_rate=None, more=b"", size=None):
+    """A `fmt ` chunk, of 16 bytes and more."""
     block = channels * bits // 8 if block is None else block
     byte_rate = rate * block if byte_rate is None else byte_rate
-    return chunk(b"fmt ", struct.pack("<HHIIHH", tag, channels, rate, byte_rate, block, bits))
+    return chunk(b"fmt ", struct.pack("<HHIIHH", tag, channels, rate, byte_rate, block, bits) + more, size)
+
+
+def float_fmt(rate=48000, channels=1, length=18, **others):
+    """A `fmt ` chunk of floats, of 16 or 18 bytes."""
+    return fmt(rate, **{"bits": 32, "tag": 3, "channels": channels, "more": bytes(length - 16), **others})
 
 
 def riff(*chunks, size=None, first=b"RIFF", form=b"WAVE"):
@@ -30,6 +37,16 @@ def riff(*chunks, size=None, first=b"RIFF", form=b"WAVE"):
 def file24(data, rate=48000, channels=1):
     """A file of 24-bit samples."""
     return riff(fmt(rate, channels=channels), chunk(b"data", data))
+
+
+def floats(patterns):
+    """Floats by their patterns, four bytes each."""
+    return struct.pack(f"<{len(patterns)}I", *patterns)
+
+
+def file_float(data, rate=48000, channels=1, length=18):
+    """A file of floats."""
+    return riff(float_fmt(rate, channels, length), chunk(b"data", data))
 
 
 # 01, The program: the whole case. The samples are 1 and -1.
@@ -48,10 +65,14 @@ def little(data):
     return int.from_bytes(data, "little")
 
 
+# tag, bits, and what stands behind the bits
+FORMATS = ((1, 16, b""), (1, 24, b""), (3, 32, b""), (3, 32, b"\0\0"))
+
+
 def right(body):
     """Whether the contents of a `fmt ` chunk have the right values."""
-    tag, channels, rate, byte_rate, block, bits = struct.unpack("<HHIIHH", body)
-    if tag != 1 or channels not in (1, 2) or rate not in RATES or bits not in (16, 24):
+    tag, channels, rate, byte_rate, block, bits = struct.unpack("<HHIIHH", body[:16])
+    if (tag, bits, body[16:]) not in FORMATS or channels not in (1, 2) or rate not in RATES:
         return False
     return block * 8 == channels * bits and byte_rate == rate * block
 
@@ -67,11 +88,11 @@ def read(lent):
             return 24
         name, size = front[at : at + 4], little(front[at + 4 : at + 8])
         if name == b"fmt ":
-            if size != 16:
+            if size not in (16, 18):
                 return 23
-            if at + 24 > len(front):
+            if at + 8 + size > len(front):
                 return 24
-            body = front[at + 8 : at + 24]
+            body = front[at + 8 : at + 8 + size]
             if sound or not right(body):
                 return 23
             sound = (little(body[4:8]), little(body[14:16]), little(body[2:4]))
@@ -122,9 +143,10 @@ def sample(data):
 
 
 def samples(data, bits=24):
-    """The samples in bytes, as many as are wholly there."""
+    """The samples in bytes, as many as are wholly there; of floats None for a NaN and an infinity."""
     size = bits // 8
-    return [sample(data[i : i + size]) for i in range(0, len(data) - size + 1, size)]
+    parts = [data[i : i + size] for i in range(0, len(data) - size + 1, size)]
+    return [sample_of(little(part)) if bits == 32 else sample(part) for part in parts]
 
 
 def to_bytes(values):
