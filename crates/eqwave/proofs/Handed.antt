@@ -1,22 +1,29 @@
 -- What the program hands over and says, in the definitions of a run: each write is the next part of it, and `short` is what the header states but was not read. Assumes nothing.
-use mathlib.Core.Path.{_≡_, refl, sym, ap, _∙_}
+use mathlib.Core.Path.{_≡_, refl, sym, ap, subst, _∙_}
+use mathlib.Core.Bool.{false}
 use mathlib.Core.List.{List, [], _∷_, _++_}
-use Prim.Native.Nat.{ℕ, zero, suc, _+_, _*_, _≤_}
+use Prim.Native.Nat.{ℕ, zero, suc, _+_, _-_, _*_, _≤_}
 use native.Mathlib.Omega.{arith}
 use lib.ListN.{length, take, drop, replicate}
 use lib.IntN.{ℤ}
 use Rattle.fields.specs.Bytes.{lowest, field}
 use Rattle.chunks.specs.Walk.{padding, padded, pad}
 use Rattle.samples.specs.Channels.{countOf}
-use Rattle.eqfile.specs.Turn.{shortOf}
-use Rattle.runs.specs.Program.{State, fresh, handed, frameBytes, blockDone, programWrites}
+use Rattle.samples.specs.Samples.{bytesOf}
+use Rattle.wave_writer.specs.Header.{header}
+use Rattle.eqfile.specs.declared.turn.Turn.{Turn}
+use Rattle.eqfile.specs.Data.{samplesFrom}
+use Rattle.eqfile.specs.Turn.{late, shortOf}
+use Rattle.runs.specs.Program.{State, fresh, Arrives, handed, frameBytes, turnAt, turnNumbers, blockDone, programWrites, framesOut}
 use Rattle.runs.specs.Started.{fileOf}
+use Rattle.runs.specs.Stopped.{Stops, stoppedFile}
 use Rattle.runs.proofs.OneMore.{writes-more}
 use Rattle.runs.proofs.Starting.{stated}
 use Rattle.runs.proofs.DataRead.{short-adds-up, front-first}
 use Rattle.runs.proofs.WholeFile.{file-length, riff-length}
+use Rattle.runs.proofs.Stopping.{stopped-is}
 use Rattle.turning.specs.declared.place.Job.{Job}
-use Rattle.turning.specs.Running.{Due, Ended}
+use Rattle.turning.specs.Running.{Running, Stopped, Due, Ended}
 
 -- what is handed over follows what the turns before it handed over
 pub due-is-next : (job : Job) (gains : List ℤ) (front bytes : List ℕ) (d : Due job gains front bytes) →
@@ -59,3 +66,32 @@ module _ (job : Job) (gains : List ℤ) (front : List ℕ) (read : ℕ) (e : End
   -- .. and as its RIFF length says
   pub riff-says : field lowest file 4 4 + 8 ≡ length file
   riff-says = riff-length (e .started) (e .pieces) (e .by-plan)
+
+-- a run that stops
+module _ (job : Job) (gains : List ℤ) (front : List ℕ) (st : Stopped job gains front) where
+  abbrev run : Running job gains front (st .place) (st .memory)
+  run = st .arrived .running
+
+  abbrev before : List (List ℕ)
+  before = run .pieces
+
+  -- it stops by the definition
+  pub stops-so : Stops gains (job .format) (job .channels) (job .frames) before (st .piece)
+  stops-so =
+      record {
+        followed = run .followed;
+        arrives =
+            subst (λ (s : State). Arrives (turnAt (job .format) (job .channels) (job .frames) s) (st .piece)) (run .stands)
+            (subst (λ (t : Turn). Arrives t (st .piece)) (st .arrived .turn-is) (st .arrived .arrives));
+        bad = subst (λ (s : State). turnNumbers (job .format) (job .channels) (job .frames) s (st .piece) ≡ false) (run .stands) (st .bad);
+      }
+
+  -- what was handed over is the header, and the outputs of the blocks before
+  pub stopped-writes : let at = st .place .at in let c = countOf (job .channels) in
+      stoppedFile gains (job .format) (job .channels) (job .frames) (run .rate) before ≡
+      header (run .rate) (3 * (c * job .frames)) c ++ bytesOf (framesOut gains (job .channels) (at - late) (samplesFrom (c * at) (job .format) (handed before)))
+  stopped-writes =
+      let c = countOf (job .channels) in
+      stopped-is (run .started) before (st .piece) stops-so ∙
+      ap (λ (s : State). header (run .rate) (3 * (c * job .frames)) c ++ bytesOf (framesOut gains (job .channels) (s .at - late) (samplesFrom (c * s .at) (job .format) (handed before))))
+      (sym (run .stands))
