@@ -70,6 +70,8 @@ static void bad_at(uint32_t *floats, size_t length, size_t first, size_t second)
 void float_blocks(int rounds)
 {
     static uint32_t floats[MOST];
+    static const uint32_t reading[] = {0, 0x7f800000, 0, 0x7fc00000, 0}; /* the rule book's: an infinity at 1, a NaN at 3 */
+    refused(reading, 5, 5, 41, 1);
     accepted(floats, 0);
     for (size_t length = 0; length <= 6; length++)
         for (size_t places = 0; places <= 6; places++)

@@ -50,6 +50,14 @@ pub record Stopped (job : Job) (gains : List ℤ) (front : List ℕ) : Type 0 wh
   pub arrived : Arrived job gains front place memory turn piece
   pub bad : turnNumbers (job .format) (job .channels) (job .frames) (stateAt place memory) piece ≡ false
 
+-- rule 10.15: a block whose samples are numbers was there to be handed over
+pub record Tried (job : Job) (gains : List ℤ) (front : List ℕ) : Type 0 where
+  pub place : Place
+  pub memory : List ℤ
+  pub turn : Turn
+  pub piece : List ℕ
+  pub came : Came job gains front place memory turn piece
+
 -- rule 10.8: these bytes are just those that the block of a run's next turn stores
 pub record Due (job : Job) (gains : List ℤ) (front : List ℕ) (bytes : List ℕ) : Type 0 where
   pub place : Place
@@ -65,13 +73,13 @@ PutDone job gains front place memory piece Taken after′ =
     (turnNumbers (job .format) (job .channels) (job .frames) (stateAt place memory) piece ≡ true) ×
     (after′ ≡ blockDone gains (job .format) (job .channels) (job .frames) (stateAt place memory) piece .lent .0)
 PutDone job gains front place memory piece BadSample after′ = Stopped job gains front
-PutDone job gains front place memory piece NotTaken after′ = Unit {0}
+PutDone job gains front place memory piece NotTaken after′ = turnNumbers (job .format) (job .channels) (job .frames) (stateAt place memory) piece ≡ true
 
 -- rule 10.10: a turn leaves a run that has fed more
 abbrev pub Further : Job → List ℤ → List ℕ → Place → Turned → List ℤ → Type 0
 Further job gains front place (On further) memory = Running job gains front further memory × (place .at < fedInAll (job .frames) → place .at < further .at)
 Further job gains front place NotANumber memory = Stopped job gains front
-Further job gains front place OutputFailed memory = Unit {0}
+Further job gains front place OutputFailed memory = Tried job gains front
 
 -- rule 10.13: a run has ended by its plan, and so many bytes were read
 pub record Ended (job : Job) (gains : List ℤ) (front : List ℕ) (read : ℕ) : Type 0 where

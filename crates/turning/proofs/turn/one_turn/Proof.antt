@@ -81,10 +81,23 @@ returns-2 c =
     let piece = take (f .fetch .result) (f .fetch .last .1 .1 .0 ++ drop (t .next-turn .result .wanted) (b .bytes .result)) in
     subst (λ (r : Handed). PutDone (a .job) (now (a .gains)) (now (a .front)) (a .place) (now (a .memory)) piece r (put .put .last .1 .1 .1 .1 .0)) (c .enum-told2 .given .1) (put .put .ensures)
 
+returns-3 : tie.Need-returns-3
+returns-3 c =
+    let put = c .before .before .before in
+    let f = put .before .before .before .before in
+    let b = f .before .before .before .before in
+    let t = b .before in
+    let s = t .before .before in
+    let a = s .args in
+    let piece = take (f .fetch .result) (f .fetch .last .1 .1 .0 ++ drop (t .next-turn .result .wanted) (b .bytes .result)) in
+    let arrived = piece-came (s .pre) (t .next-turn .ensures) (b .bytes .ensures) (f .fetch .result) (f .fetch .last .1 .1 .0) (f .fetch .kept .1 .1 .0) (f .fetch .ensures .1 .0) (f .fetch .ensures .0) (f .fetch .ensures .1 .1) in
+    let numbers = subst (λ (r : Handed). PutDone (a .job) (now (a .gains)) (now (a .front)) (a .place) (now (a .memory)) piece r (put .put .last .1 .1 .1 .1 .0)) (c .enum-told3 .given .1) (put .put .ensures) in
+    record { place = a .place; memory = now (a .memory); turn = t .next-turn .result; piece = piece; came = record { arrived = arrived; numbers = numbers } }
+
 pub one-turn-spec : {M : Type 1} → statement M
 one-turn-spec =
     tie.close
     (tie.spec (λ c κs. tt) (λ c κs. tt) add-fetch array-borrow-prefix-bytes
     (λ c. sym (length-take-le _ _ (array-borrow-prefix-bytes (c .before)))) (λ c κs. tt) array-share-prefix-bytes
     (λ c. sym (length-take-le _ _ (array-share-prefix-bytes (c .before)))) put-requires (λ c. search needs) add-t22 add-t23 (λ c. search needs) (λ c. search needs)
-    (λ c. search needs) returns (λ c. search needs) returns-2 (λ c. search needs) (λ c. tt))
+    (λ c. search needs) returns (λ c. search needs) returns-2 (λ c. search needs) returns-3)

@@ -125,6 +125,13 @@ returns-2 c =
     let x = taken left in
     (k .numbers, memory-is k (n .channel-count .ensures .0) (b .before .samples .result) (b .before .samples .ensures) (b .bytes .ensures) x (e .equalise .ensures))
 
+returns-3 : tie.Need-returns-3
+returns-3 c =
+    let e = c .before .before .before .before .before .before in
+    let left = e .before .before .before .before in
+    let k = all-numbers left in
+    k .numbers
+
 pub put-spec : {M : Type 1} → statement M
 put-spec =
     tie.close
@@ -132,4 +139,4 @@ put-spec =
     (λ c. sym (length-take-le _ _ (array-borrow-prefix-input (c .before)))) (λ c κs. tt) returns array-share-prefix-input
     (λ c. sym (length-take-le _ _ (array-share-prefix-input (c .before)))) array-borrow-prefix-stored
     (λ c. sym (length-take-le _ _ (array-borrow-prefix-stored (c .before)))) (λ c κs. tt) count-requires array-share-prefix-stored
-    (λ c. sym (length-take-le _ _ (array-share-prefix-stored (c .before)))) hand-requires (λ c. search needs) returns-2 (λ c. search needs) (λ c. tt))
+    (λ c. sym (length-take-le _ _ (array-share-prefix-stored (c .before)))) hand-requires (λ c. search needs) returns-2 (λ c. search needs) returns-3)
