@@ -21,8 +21,8 @@ use Rattle.ring.proofs.Places.{published-centred}
 use Rattle.lines.proofs.Interchange.{rows-count, rows-even}
 use Rattle.lines.proofs.Turns.{turn}
 use Rattle.weighing.specs.Weighing.{outOf, bandSum, outputs}
-use Rattle.weighing.specs.Helpers.{Differ, RowWeighed}
-use Rattle.block_rows.specs.Helpers.{RowAnswered, SideAnswered, SideDone}
+use Rattle.weighing.specs.Helpers.{WeighedUnder}
+use Rattle.block_rows.specs.Helpers.{SideDone}
 
 -- ---- the position
 
@@ -49,17 +49,13 @@ outputs-append g (a ∷ xs) ys = ap (λ (l : List ℤ). outOf (bandSum g a) ∷ 
 -- ---- a row
 
 -- what the matrix shows is what is weighed
-pub row-answered : (bands size at : ℕ) (lines xs before : List ℤ) {ds ys matrix outs : List ℤ} (n : ℕ) → 1 ≤ bands → length outs ≡ n → length xs ≡ n → take n before ≡ xs →
-    RowsDone (rowed published size (bands - 1) 1 at lines (take n before)) n ys matrix → RowWeighed bands matrix ds outs →
-    RowAnswered bands (rowed published size (bands - 1) 1 at lines xs) ds ys outs
-row-answered bands size at lines xs before {ds} {ys} {matrix} {outs} n some e long taken d' w =
-    let d : RowsDone (rowed published size (bands - 1) 1 at lines xs) n ys matrix = rw taken at d' in
+row-outputs : (bands size at : ℕ) (lines xs : List ℤ) {channels s n : ℕ} {g : ℕ → ℤ} {ys matrix before after : List ℤ} → 1 ≤ bands → length xs ≡ n →
+    RowsDone (rowed published size (bands - 1) 1 at lines xs) n ys matrix → WeighedUnder channels s n bands g matrix before after →
+    side channels s n after ≡ outputs (λ _. g) (columns (rowed published size (bands - 1) 1 at lines xs .rows))
+row-outputs bands size at lines xs some long d w =
     let R = rowed published size (bands - 1) 1 at lines xs in
     let count : length (R .rows) ≡ bands = rows-count published size (bands - 1) 1 at lines xs ∙ suc-less bands some in
-    record {
-      places-are = d .places-are;
-      under = λ g q top. w .under g (R .rows) q top count (rw (e ∙ sym long) (rows-even published size (bands - 1) 1 at lines xs)) (rw e (d .shown));
-    }
+    w .weighed (R .rows) count (rw (sym long) (rows-even published size (bands - 1) 1 at lines xs)) (d .shown)
   where
     suc-less : (n : ℕ) → 1 ≤ n → suc (n - 1) ≡ n
     suc-less n h = omega arith
@@ -159,16 +155,14 @@ module _ {bands size from c s frames : ℕ} {g : ℕ → ℤ} {lines₀ input ro
       ap (λ (k : ℕ). side c t n (take k (drop (c * i) xs))) (sym (less n)))
       (ap (side c t (frames - (i + n))) (drop-drop (c * n) (c * i) xs ∙ ap (λ (k : ℕ). drop k xs) (sym (mul-add c i n))))
 
-  pub going-on : (n : ℕ) (ds ys rows' outs : List ℤ) → n ≤ frames - i → at + n ≤ size →
+  pub going-on : (n : ℕ) (ys rows' outs : List ℤ) → n ≤ frames - i → at + n ≤ size →
       length ys ≡ length lines → length rows' ≡ length rows →
       length outs ≡ length (take (c * (i + n) - c * i) (drop (c * i) output)) →
-      Differ bands g ds → g (suc bands) ≡ pos 0 →
-      SideAnswered bands c s n (rowed published size (bands - 1) 1 at lines (side c s n (take (c * (i + n) - c * i) (drop (c * i) input)))) ds ys
-      (take (c * (i + n) - c * i) (drop (c * i) output)) outs →
+      RowsDone (rowed published size (bands - 1) 1 at lines (side c s n (take (c * (i + n) - c * i) (drop (c * i) input)))) n ys rows' →
+      WeighedUnder c s n bands g rows' (take (c * (i + n) - c * i) (drop (c * i) output)) outs →
       Going bands size from c s frames g lines₀ input rows₀ output₀ ys rows' (putMid (c * i) (c * (i + n) - c * i) output outs) (wrapped size (at + n)) (i + n)
-  going-on n ds ys rows' outs left before ly lr lo q top a =
+  going-on n ys rows' outs left before ly lr lo d a =
       let k = bands - 1 in
-      let d = a .answered in
       let xs = side c s n (take (c * (i + n) - c * i) (drop (c * i) input)) in
       let later = side c s (frames - (i + n)) (drop (c * (i + n)) input) in
       let R = rowed published size k 1 at lines xs in
@@ -188,7 +182,7 @@ module _ {bands size from c s frames : ℕ} {g : ℕ → ℤ} {lines₀ input ro
         same-lines = ly ∙ going .same-lines;
         same-output = same-len-mid (c * i) (c * (i + n) - c * i) output outs lo ∙ going .same-output;
         same-rows = lr ∙ going .same-rows;
-        rest = went-on g (side c s i output) (side c s n outs) (columns (R .rows)) T put (d .under g q top) same here (going .rest);
+        rest = went-on g (side c s i output) (side c s n outs) (columns (R .rows)) T put (row-outputs bands size at lines xs (region .some) long d a) same here (going .rest);
         others = λ t l z. kept t l z ∙ going .others t l z;
       }
     where

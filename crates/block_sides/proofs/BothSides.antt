@@ -20,6 +20,10 @@ use Rattle.weighing.proofs.GainSums.{outputs-length}
 use Rattle.block_rows.specs.Helpers.{SideDone}
 use Rattle.block_sides.specs.Helpers.{Sides, SidesDone}
 
+-- another output as long as the input
+pub with-output : {bands size c : ℕ} {lines input output : List ℤ} (second : List ℤ) → length second ≡ length input → Sides bands size c lines input output → Sides bands size c lines input second
+with-output second e a = record { some = a .some; few = a .few; whole = a .whole; region = a .region; alike = e; frames = a .frames }
+
 module _ {bands size c : ℕ} {lines input output : List ℤ} (a : Sides bands size c lines input output) where
   -- the places of one side
   abbrev places : ℕ

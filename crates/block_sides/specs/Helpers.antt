@@ -6,9 +6,11 @@ use lib.ListN.{length}
 use lib.IntN.{ℤ}
 use Rattle.frames.specs.Frames.{woven, behind, placesOf}
 use Rattle.tree.specs.Prototype.{published}
+use Rattle.tree.specs.Signal.{gainOf}
 use Rattle.lines.specs.Cascade.{Ran}
 use Rattle.lines.specs.Helpers.{Region}
 use Rattle.weighing.specs.Weighing.{outputs}
+use Rattle.block_rows.specs.Helpers.{Asked}
 
 -- what the samples of all sides ask: one or two channels, just the lines of each, whole frames
 pub record Sides (bands size channels : ℕ) (lines input output : List ℤ) : Type 0 where
@@ -24,3 +26,8 @@ pub record SidesDone (channels n : ℕ) (ran : ℕ → Ran) (g : ℕ → ℤ) (p
   pub places-are : places ≡ behind channels (λ s. ran s .places)
   pub position-is : position ≡ ran 0 .position
   pub outputs-are : outs ≡ woven channels n (λ s. outputs (λ _. g) (ran s .aligned))
+
+-- .. and, where a second weighing is asked for, its outputs too
+pub record BothSidesDone (channels n : ℕ) (ran : ℕ → Ran) (gains others places : List ℤ) (position : ℕ) (outs outs₂ : List ℤ) : Type 0 where
+  pub first : SidesDone channels n ran (gainOf gains) places position outs
+  pub again : Asked others → SidesDone channels n ran (gainOf others) places position outs₂

@@ -3,11 +3,11 @@ ghost use Prim.Native.Nat.{_≤_, _<_, _-_, _*_, _/_};
 ghost use lib.ListN.{length};
 ghost use Rattle.frames.specs.Frames.{sideOf, placesOf};
 ghost use Rattle.tree.specs.Prototype.{published};
-ghost use Rattle.tree.specs.Signal.{gainOf};
 ghost use Rattle.lines.specs.Cascade.{run};
 ghost use Rattle.lines.specs.Rows.{rowPlaces};
 ghost use Rattle.weighing.specs.Helpers.{Allowed};
-ghost use Rattle.block_sides.specs.Helpers.{Sides, SidesDone};
+ghost use Rattle.block_rows.specs.Helpers.{Second};
+ghost use Rattle.block_sides.specs.Helpers.{Sides, BothSidesDone};
 use block_rows::run::each_row;
 
 // The places of ten rows, and of four: few bands clear few places.
@@ -23,12 +23,14 @@ fn each_side(
     bands: usize,
     channels: usize,
     gains: &[i32],
+    others: &[i32],
     input: &[i32],
     rows: &mut [i32],
     output: &mut [i32],
+    second: &mut [i32],
 ) -> usize
-    requires { ⌜ Sides bands size channels (now lines) (now input) (now output) × (from < size) × Allowed bands (now gains) × (rowPlaces * bands ≤ length (now rows)) ⌝ }
-    ensures { λ r. ⌜ SidesDone channels (length (now (input .entry)) / channels) (λ s. run published size (bands - 1) from (placesOf ((bands - 1) * size) s (now (lines .entry))) (sideOf channels s (now (input .entry)))) (gainOf (now (gains .entry))) (now (lines .exit)) r (now (output .exit)) ⌝ }
+    requires { ⌜ Sides bands size channels (now lines) (now input) (now output) × (from < size) × Allowed bands (now gains) × Second bands (now others) (now input) (now second) × (rowPlaces * bands ≤ length (now rows)) ⌝ }
+    ensures { λ r. ⌜ BothSidesDone channels (length (now (input .entry)) / channels) (λ s. run published size (bands - 1) from (placesOf ((bands - 1) * size) s (now (lines .entry))) (sideOf channels s (now (input .entry)))) (now (gains .entry)) (now (others .entry)) (now (lines .exit)) r (now (output .exit)) (now (second .exit)) ⌝ }
 {
     let places = (bands - 1) * size;
     let at = each_row(
@@ -37,11 +39,13 @@ fn each_side(
         from,
         bands,
         gains,
+        others,
         channels,
         0,
         input,
         rows,
         output,
+        second,
     );
     if channels == 2 {
         each_row(
@@ -50,11 +54,13 @@ fn each_side(
             from,
             bands,
             gains,
+            others,
             channels,
             1,
             input,
             rows,
             output,
+            second,
         );
     }
     at
@@ -68,11 +74,13 @@ pub fn run(
     bands: usize,
     channels: usize,
     gains: &[i32],
+    others: &[i32],
     input: &[i32],
     output: &mut [i32],
+    second: &mut [i32],
 ) -> usize
-    requires { ⌜ Sides bands size channels (now lines) (now input) (now output) × (from < size) × Allowed bands (now gains) ⌝ }
-    ensures { λ r. ⌜ SidesDone channels (length (now (input .entry)) / channels) (λ s. run published size (bands - 1) from (placesOf ((bands - 1) * size) s (now (lines .entry))) (sideOf channels s (now (input .entry)))) (gainOf (now (gains .entry))) (now (lines .exit)) r (now (output .exit)) ⌝ }
+    requires { ⌜ Sides bands size channels (now lines) (now input) (now output) × (from < size) × Allowed bands (now gains) × Second bands (now others) (now input) (now second) ⌝ }
+    ensures { λ r. ⌜ BothSidesDone channels (length (now (input .entry)) / channels) (λ s. run published size (bands - 1) from (placesOf ((bands - 1) * size) s (now (lines .entry))) (sideOf channels s (now (input .entry)))) (now (gains .entry)) (now (others .entry)) (now (lines .exit)) r (now (output .exit)) (now (second .exit)) ⌝ }
 {
     if bands <= 4 {
         let mut rows = [0i32; FOUR_ROWS];
@@ -83,9 +91,11 @@ pub fn run(
             bands,
             channels,
             gains,
+            others,
             input,
             &mut rows,
             output,
+            second,
         );
     }
     let mut rows = [0i32; TEN_ROWS];
@@ -96,8 +106,10 @@ pub fn run(
         bands,
         channels,
         gains,
+        others,
         input,
         &mut rows,
         output,
+        second,
     )
 }

@@ -25,7 +25,9 @@ use Rattle.octave.specs.Memory.{lineLength, sidePlaces, headPlaces, held
 use Rattle.weighing.specs.Weighing.{outputs}
 use Rattle.octave.specs.Block.{equalised}
 use Rattle.weighing.specs.Helpers.{Allowed}
+use Rattle.block_rows.specs.Helpers.{Second}
 use Rattle.block_sides.specs.Helpers.{Sides, SidesDone}
+use Rattle.octave.specs.Helpers.{JudgedAgain}
 use Rattle.frames.specs.Frames.{sideOf, woven, behind, placesOf}
 use Rattle.frames.proofs.Laws.{places-length}
 use Rattle.octave.proofs.Ranges.{within-parts}
@@ -38,12 +40,16 @@ use Rattle.block_rows.proofs.Running.{wrapped-inside}
 gain-small : (g : ℤ) → within (pos 0) (pos largestGain) g ≡ true → natAbs g ≤ 2 ^ 14
 gain-small g e = omega (arith, about g, within-parts (pos 0) (pos largestGain) g e)
 
-pub allowed-gains : (gains : List ℤ) {bands : ℕ} → length gains ≡ bands → allWithin (pos 0) (pos largestGain) gains ≡ true → Allowed bands gains
+pub allowed-gains : (gains : List ℤ) {bands : ℕ} → length gains ≤ bands → allWithin (pos 0) (pos largestGain) gains ≡ true → Allowed bands gains
 allowed-gains gains {bands} l e = record { counted = l; range = λ i. by i (decLt i (length gains)) }
   where
     by : (i : ℕ) → Dec (i < length gains) → natAbs (getD gains i (pos 0)) ≤ 2 ^ 14
     by i (yes h) = gain-small (getD gains i (pos 0)) (all-at (pos 0) (pos largestGain) gains e i h)
     by i (no n) = rw (List·getD-eq-default gains (pos 0) {n = i} (omega arith)) (omega arith)
+
+-- .. and those of a second weighing
+pub asked-again : {bands : ℕ} {others input second : List ℤ} → JudgedAgain bands others input second → Second bands others input second
+asked-again {others = others} j = record { allowed = λ asked. allowed-gains others (j .counted asked) (j .allowed); alike = j .alike }
 
 -- ---- the samples
 

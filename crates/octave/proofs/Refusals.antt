@@ -66,26 +66,27 @@ block-held memory gains input output e =
     unnumbered-holds blockAnswer cs r (block-refuses memory gains input output)
     (sym (ap (λ (q : Blocked). numberIn (blockAnswer q)) (decided (memory, output) (equalised memory gains input) r cs)) ∙ e)
 
--- ---- 8
+-- ---- 8, of any call that answers it
 
-abbrev Told : List ℤ → ℕ → Blocked → Type 0
-Told input i r = blockAnswer r ≡ refused 8 i → FirstAt leastSample mostSample input i
+module _ {R : Type 0} (answerOf : R → Answer ℕ) (input : List ℤ) (i : ℕ) where
+  -- refused 8 with a place: at that place there is a bad sample, before it none
+  abbrev pub Told : R → Type 0
+  Told r = answerOf r ≡ refused 8 i → FirstAt leastSample mostSample input i
 
-module _ (input : List ℤ) (i : ℕ) where
-  not-fault : (f : Fault) → Told input i (Memory f)
-  not-fault f e = absurd (omega (arith, fault-number f, ap numberIn e))
+  pub not-fault : (case : Fault → R) → ((f : Fault) → answerOf (case f) ≡ refused (faultNumber f) 0) → (f : Fault) → Told (case f)
+  not-fault case is f e = absurd (omega (arith, fault-number f, ap numberIn (sym (is f) ∙ e)))
 
-  not-eight : (r : Blocked) → eqb (numberIn (blockAnswer r)) 8 ≡ false → Told input i r
+  pub not-eight : (r : R) → eqb (numberIn (answerOf r)) 8 ≡ false → Told r
   not-eight r n e = absurd (false≢true (sym n ∙ ap (λ (a : Answer ℕ). eqb (numberIn a) 8) e))
 
-  eight : allWithin leastSample mostSample input ≡ false → Told input i (Sample (firstOutside leastSample mostSample input))
-  eight t e = subst (FirstAt leastSample mostSample input) (ap placeIn e) (first-at leastSample mostSample input t)
+  pub eight : (case : ℕ → R) → ((k : ℕ) → answerOf (case k) ≡ refused 8 k) → allWithin leastSample mostSample input ≡ false → Told (case (firstOutside leastSample mostSample input))
+  eight case is t e =
+      subst (FirstAt leastSample mostSample input) (ap placeIn (sym (is (firstOutside leastSample mostSample input)) ∙ e)) (first-at leastSample mostSample input t)
 
--- refused 8 with a place: at that place there is a bad sample, before it none
-pub first-bad : (memory gains input output : List ℤ) (i : ℕ) → blockAnswer (blockOf memory gains input output .result) ≡ refused 8 i → FirstAt leastSample mostSample input i
+pub first-bad : (memory gains input output : List ℤ) (i : ℕ) → Told blockAnswer input i (blockOf memory gains input output .result)
 first-bad memory gains input output i =
-    every (memory, output) (equalised memory gains input) (Written (framesOf memory input)) (Told input i) (blockChecks memory gains input output)
-    (search (eaching, not-fault, not-eight, eight) depth 20)
+    every (memory, output) (equalised memory gains input) (Written (framesOf memory input)) (Told blockAnswer input i) (blockChecks memory gains input output)
+    (search (eaching, not-fault blockAnswer input i Memory (λ f. refl), not-eight blockAnswer input i, eight blockAnswer input i Sample (λ k. refl)) depth 20)
 
 -- the place of a bad sample in a block that is not too long
 pub bad-place : (memory input : List ℤ) → accepts memory ≡ true → eqb (length input % channelsIn memory) 0 ≡ true → leb (framesOf memory input) blockLimit ≡ true →

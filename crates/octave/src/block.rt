@@ -3,18 +3,15 @@ ghost use mathlib.Core.Path.{_≡_};
 ghost use Rattle.answers.specs.Checks.{Done};
 ghost use Rattle.octave.specs.Block.{equalised, blockOf};
 ghost use Rattle.octave.specs.Helpers.{KeptCounts, Judged};
-use crate::layout::HEAD;
-use crate::layout::POSITION;
-use crate::layout::line_length;
 use crate::memory::Fault;
 use crate::memory::Kept;
 use crate::memory::judge;
+use crate::pass::pass;
 use answers::range::first_outside;
 use answers::unit::BLOCK_LIMIT;
 use answers::unit::LARGEST_GAIN;
 use answers::unit::LEAST_SAMPLE;
 use answers::unit::MOST_SAMPLE;
-use block_sides::run::run;
 use frames::count::frames_in;
 use frames::count::whole_frames;
 
@@ -30,7 +27,7 @@ pub enum Blocked {
     Sample(usize),
 }
 
-// The samples through the lines from the position on, and the position afterwards. Everything has been judged.
+// The samples through the lines, weighed once. Everything has been judged.
 fn equalise(
     memory: &mut [i32],
     gains: &[i32],
@@ -42,19 +39,18 @@ fn equalise(
     requires { ⌜ Judged bands channels (now memory) (now gains) (now input) (now output) ⌝ }
     ensures { λ _. ⌜ (now (memory .exit), now (output .exit)) ≡ equalised (now (memory .entry)) (now (gains .entry)) (now (input .entry)) ⌝ }
 {
-    let size = line_length(bands);
-    let from = memory[POSITION] as usize;
-    let at = run(
-        &mut memory[HEAD..],
-        size,
-        from,
-        bands,
-        channels,
+    let no_gains = [0i32; 0];
+    let mut nowhere = [0i32; 0];
+    pass(
+        memory,
         gains,
+        &no_gains,
         input,
         output,
+        &mut nowhere,
+        bands,
+        channels,
     );
-    memory[POSITION] = at as i32;
 }
 
 // The call on an accepted memory of `bands` bands and `channels` channels. All is judged before anything is written.

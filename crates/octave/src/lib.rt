@@ -2,3 +2,4 @@
 pub mod block;
 mod layout;
 pub mod memory;
+pub mod pass;

@@ -1,5 +1,5 @@
 -- The gain differences of neighbouring bands. Assumes nothing.
-use mathlib.Core.Path.{_≡_, refl, ap₂, _∙_}
+use mathlib.Core.Path.{_≡_, refl, sym, ap₂, _∙_}
 use mathlib.Core.List.{List}
 use Prim.Native.Nat.{ℕ, zero, suc, _+_, _-_, _≤_, _<_, _^_}
 use native.Mathlib.Omega.{arith}
@@ -14,7 +14,7 @@ use Rattle.whole.proofs.Signed.{var, lit, _⊖_, eq-by, about}
 use Rattle.whole.proofs.Magnitude.{abs--ℤ}
 use Rattle.whole.proofs.Rounded.{raw}
 use Rattle.tree.specs.Signal.{gainOf}
-use Rattle.weighing.specs.Helpers.{Differ, Small}
+use Rattle.weighing.specs.Helpers.{Differ, Small, Above}
 
 -- ---- one difference
 
@@ -41,10 +41,11 @@ pub record Finding (gains found : List ℤ) (i : ℕ) : Type 0 where
   pub reached : i ≤ length gains
   pub long : length found ≡ 10
   pub placed : (j : ℕ) → j < i → getD found j (pos 0) ≡ getD gains j (pos 0) -ℤ getD gains (j + 1) (pos 0)
+  pub rest : (j : ℕ) → i ≤ j → getD found j (pos 0) ≡ pos 0
   pub small : (j : ℕ) → natAbs (getD found j (pos 0)) ≤ 2 ^ 15
 
 pub finding-starts : (gains : List ℤ) → Finding gains (replicate 10 (pos 0)) 0
-finding-starts gains = record { reached = omega arith; long = refl; placed = λ j h. absurd (omega arith); small = λ j. rw (all-nought 10 j) (omega arith) }
+finding-starts gains = record { reached = omega arith; long = refl; placed = λ j h. absurd (omega arith); rest = λ j h. all-nought 10 j; small = λ j. rw (all-nought 10 j) (omega arith) }
   where
     all-nought : (n j : ℕ) → getD (replicate n (pos 0)) j (pos 0) ≡ pos 0
     all-nought zero j = refl
@@ -61,6 +62,7 @@ module _ (gains found : List ℤ) (i : ℕ) (f : Finding gains found i) where
         reached = omega arith;
         long = length-set found i (raw w32 r) ∙ f .long;
         placed = λ j l. placed-by j l same (decLt j i);
+        rest = λ j l. getD-set-other found i j (raw w32 r) (pos 0) (λ z. omega arith) ∙ f .rest j (omega arith);
         small = λ j. small-by j same (decLt j i) (decLt i j);
       }
     where
@@ -74,12 +76,20 @@ module _ (gains found : List ℤ) (i : ℕ) (f : Finding gains found i) where
       small-by j same (no n) (yes q) = rw (getD-set-other found i j (raw w32 r) (pos 0) (λ z. omega arith)) (f .small j)
       small-by j same (no n) (no k) = let z : j ≡ i = omega arith in rw (z, same) s
 
-  pub finding-ends : length gains ≤ i → Differ (length gains) (gainOf gains) found × Small found
+  pub finding-ends : length gains ≤ i → Differ (gainOf gains) found × Small found × Above (length gains) found
   finding-ends h = (
-    record { at-place = λ j l. f .placed j (omega arith) ∙ ap₂ (λ (u v : ℕ). getD gains u (pos 0) -ℤ getD gains v (pos 0)) (omega arith) (omega arith) },
+    record { at-place = λ j. by j (decLt j (length gains)) },
     record { range = f .small },
+    record { none = λ j l. f .rest j (omega (arith, f .reached)) },
   )
+    where
+      -- behind the last gain there are zeros on both sides
+      by : (j : ℕ) → Dec (j < length gains) → getD found j (pos 0) ≡ gainOf gains (suc j) -ℤ gainOf gains (suc (suc j))
+      by j (yes l) = f .placed j (omega arith) ∙ ap₂ (λ (u v : ℕ). getD gains u (pos 0) -ℤ getD gains v (pos 0)) (omega arith) (omega arith)
+      by j (no n) =
+          f .rest j (omega (arith, f .reached)) ∙
+          sym (ap₂ _-ℤ_ (List·getD-eq-default gains (pos 0) {n = suc j - 1} (omega arith)) (List·getD-eq-default gains (pos 0) {n = suc (suc j) - 1} (omega arith)))
 
--- the band above the top one has no gain
-pub none-above : (gains : List ℤ) {bands : ℕ} → length gains ≡ bands → gainOf gains (suc bands) ≡ pos 0
+-- a band above the last has no gain
+pub none-above : (gains : List ℤ) {bands : ℕ} → length gains ≤ bands → gainOf gains (suc bands) ≡ pos 0
 none-above gains {bands} e = List·getD-eq-default gains (pos 0) {n = suc bands - 1} (omega arith)

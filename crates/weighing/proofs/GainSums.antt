@@ -2,11 +2,11 @@
 use mathlib.Core.Path.{_≡_, refl, sym, ap, ap₂, _∙_}
 use mathlib.Core.List.{List, [], _∷_}
 use Prim.Native.Nat.{ℕ, zero, suc, _+_, _-_, _*_, _^_, _≤_, _<_}
-use native.Mathlib.Nat.{mul-le-mul}
+use native.Mathlib.Nat.{mul-le-mul, add-zero, add-suc}
 use native.Mathlib.Omega.{arith}
 use lib.ListN.{length, getD}
 use lib.Seq.{ext-getD}
-use lib.IntN.{ℤ, pos, natAbs, _+ℤ_, _-ℤ_, _*ℤ_}
+use lib.IntN.{ℤ, pos, natAbs, _+ℤ_, _-ℤ_, _*ℤ_, zero-*ℤ}
 use lib.Dec.{lit<, lit≤}
 use lib.Signed.{natAbs-le}
 use mir.Syntax.{w32, w64}
@@ -19,13 +19,17 @@ use Rattle.whole.specs.Sum.{sum}
 use Rattle.whole.proofs.Signed.{var, lit, _⊕_, _⊖_, _⊗_, eq-by, about}
 use Rattle.whole.proofs.Magnitude.{abs-+ℤ, abs-*ℤ}
 use Rattle.whole.proofs.Product.{widens}
-use Rattle.whole.proofs.Sums.{sum-ext}
+use Rattle.whole.proofs.Sums.{sum-ext, sum-none}
 use Rattle.whole.proofs.Limit.{limit24-fits}
 use Rattle.whole.proofs.Rounded.{raw, nearest-fits}
+use Rattle.frames.specs.Frames.{side}
+use Rattle.frames.proofs.Laws.{side-length}
+use Rattle.tree.specs.Signal.{gainOf}
 use Rattle.lines.specs.Rows.{rowPlaces, Shown, Even, columns}
 use Rattle.lines.proofs.Columns.{shown-at, columns-length, column, column-is}
 use Rattle.weighing.specs.Weighing.{outOf, bandSum, outputs}
-use Rattle.weighing.specs.Helpers.{Differ, Small, gainSum, SumDone, RowWeighed}
+use Rattle.weighing.specs.Helpers.{Differ, Small, Above, Below, gainSum, SumDone, RowWeighed, SideWeighed, WeighedUnder}
+use Rattle.weighing.proofs.Differing.{none-above}
 
 -- ---- the sum by differences
 
@@ -51,16 +55,16 @@ module _ (ds : List ℤ) where
   unfoldable byDifferences : List ℤ → ℤ
   byDifferences xs = sum (length xs) (λ k. getD ds (length xs - 1 - k) (pos 0) *ℤ getD xs k (pos 0))
 
-  by-differences : (g : ℕ → ℤ) (a : ℤ) (below : List ℤ) → Differ (length (a ∷ below)) g ds →
+  by-differences : (g : ℕ → ℤ) (a : ℤ) (below : List ℤ) → Differ g ds →
       byDifferences (a ∷ below) ≡ bandSum g (a ∷ below) -ℤ g (suc (length (a ∷ below))) *ℤ a
   unfolding byDifferences bandSum sum
-  by-differences g a [] d = ap (λ (z : ℤ). pos 0 +ℤ z *ℤ a) (d .at-place 0 (omega arith)) ∙ one-band (g 1) (g 2) a
+  by-differences g a [] d = ap (λ (z : ℤ). pos 0 +ℤ z *ℤ a) (d .at-place 0) ∙ one-band (g 1) (g 2) a
   by-differences g a (b ∷ below) d =
       let n = length (b ∷ below) in
       sum-first n (λ k. getD ds (suc n - 1 - k) (pos 0) *ℤ getD (a ∷ b ∷ below) k (pos 0)) ∙
-      ap₂ (λ (u v : ℤ). u *ℤ a +ℤ v) (ap (λ (j : ℕ). getD ds j (pos 0)) here ∙ d .at-place n (omega arith))
+      ap₂ (λ (u v : ℤ). u *ℤ a +ℤ v) (ap (λ (j : ℕ). getD ds j (pos 0)) here ∙ d .at-place n)
       (sum-ext n (λ k h. ap (λ (j : ℕ). getD ds j (pos 0) *ℤ getD (b ∷ below) k (pos 0)) (down k)) ∙
-      by-differences g b below (record { at-place = λ i h. d .at-place i (omega arith) })) ∙
+      by-differences g b below d) ∙
       one-more (bandSum g (b ∷ below)) (g (suc n)) (g (suc (suc n))) a b
     where
       here : suc (length (b ∷ below)) - 1 - 0 ≡ length (b ∷ below)
@@ -82,7 +86,7 @@ column-at i (suc k) (row ∷ rows) h = column-at i k rows (omega arith)
 
 -- sample i of the rows that a matrix shows
 sum-is : (g : ℕ → ℤ) (ds matrix : List ℤ) (n i : ℕ) (row : List ℤ) (rows : List (List ℤ)) → i < n → Shown n (row ∷ rows) matrix →
-    Differ (length (row ∷ rows)) g ds → g (suc (length (row ∷ rows))) ≡ pos 0 →
+    Differ g ds → g (suc (length (row ∷ rows))) ≡ pos 0 →
     gainSum (length (row ∷ rows)) (length (row ∷ rows)) i matrix ds ≡ bandSum g (column i (row ∷ rows))
 unfolding byDifferences column
 sum-is g ds matrix n i row rows h sh d top =
@@ -91,7 +95,7 @@ sum-is g ds matrix n i row rows h sh d top =
     let long : length (column i rows) ≡ length rows = column-length i rows in
     sum-ext M (λ k l. ap (λ (z : ℤ). getD ds (M - 1 - k) (pos 0) *ℤ z) (shown-at n i k (row ∷ rows) matrix h l sh ∙ sym (column-at i k (row ∷ rows) l))) ∙
     ap (λ (m : ℕ). sum m (λ k. getD ds (m - 1 - k) (pos 0) *ℤ getD (x ∷ column i rows) k (pos 0))) (ap suc (sym long)) ∙
-    by-differences ds g x (column i rows) (rw long d) ∙ no-gain-above (bandSum g (x ∷ column i rows)) x {h = g (suc (length (x ∷ column i rows)))} (rw long top)
+    by-differences ds g x (column i rows) d ∙ no-gain-above (bandSum g (x ∷ column i rows)) x {h = g (suc (length (x ∷ column i rows)))} (rw long top)
 
 -- ---- the code's loop over the lines
 
@@ -102,6 +106,13 @@ part-small d a h f = rw (abs-*ℤ d a) (mul-le-mul {n₂ = 2 ^ 15} {m₂ = 2 ^ 3
 pub weight-room : (d : ℤ) {w : ℤ} → natAbs d ≤ 2 ^ 15 → SFits w32 d → w ≡ raw w32 d → natAbs (raw w64 w) ≤ 2 ^ 30
 weight-room d h f e = rw (e, widens f .answer) (omega arith)
 
+-- terms that are 0 at the end leave a sum as it is
+sum-stays : (n m : ℕ) (f : ℕ → ℤ) → ((j : ℕ) → j < m → f (n + j) ≡ pos 0) → sum (n + m) f ≡ sum n f
+unfolding sum
+sum-stays n zero f e = ap (λ (k : ℕ). sum k f) (add-zero n)
+sum-stays n (suc m) f e =
+    ap (λ (k : ℕ). sum k f) (add-suc n m) ∙ ap₂ _+ℤ_ (sum-stays n m f (λ j h. e j (omega arith))) (e m (omega arith)) ∙ eq-by (var (sum n f) ⊕ lit 0) (var (sum n f)) (omega arith)
+
 -- the lines above line b are added; `at` is the place of the next one's sample
 pub record Summing (bands i : ℕ) (matrix ds : List ℤ) (s : ℤ) (b at : ℕ) : Type 0 where
   pub left : b ≤ bands
@@ -109,11 +120,18 @@ pub record Summing (bands i : ℕ) (matrix ds : List ℤ) (s : ℤ) (b at : ℕ)
   pub so-far : s ≡ gainSum (bands - b) bands i matrix ds
   pub bounded : natAbs s ≤ (bands - b) * 2 ^ 46
 
-pub summing-starts : (bands i : ℕ) (matrix ds : List ℤ) → Summing bands i matrix ds (pos 0) bands i
-unfolding sum
-summing-starts bands i matrix ds =
-    let none : bands - bands ≡ 0 = omega arith in
-    record { left = omega arith; place = omega arith; so-far = rw none refl; bounded = omega arith }
+-- lines that do not count add nothing
+nothing : (d a : ℤ) → d ≡ pos 0 → d *ℤ a ≡ pos 0
+nothing d a e = rw e (zero-*ℤ a)
+
+pub summing-starts : (bands top i : ℕ) (matrix ds : List ℤ) → top ≤ bands → Above top ds → Summing bands i matrix ds (pos 0) top (rowPlaces * (bands - top) + i)
+summing-starts bands top i matrix ds few a =
+    record {
+      left = few;
+      place = omega arith;
+      so-far = sym (sum-none (bands - top) (λ k h. nothing (getD ds (bands - 1 - k) (pos 0)) (getD matrix (rowPlaces * k + i) (pos 0)) (a .none (bands - 1 - k) (omega arith))));
+      bounded = omega arith;
+    }
 
 module _ {bands i : ℕ} {matrix ds : List ℤ} {s : ℤ} {b at : ℕ} (k : Summing bands i matrix ds s b at) (few : bands ≤ 10) where
   pub sum-room : natAbs s ≤ 2 ^ 61
@@ -144,10 +162,13 @@ module _ {bands i : ℕ} {matrix ds : List ℤ} {s : ℤ} {b at : ℕ} (k : Summ
         bounded = rw (back, more) small;
       }
 
-  pub summing-ends : b ≤ 0 → SumDone bands i matrix ds s
-  summing-ends n =
-      let all : bands - b ≡ bands = omega arith in
-      record { value = k .so-far ∙ ap (λ (n : ℕ). gainSum n bands i matrix ds) all; bounded = rw all at (k .bounded) }
+  pub summing-ends : {low top : ℕ} → Below low top ds → b ≤ low → SumDone bands i matrix ds s
+  summing-ends {low} l n =
+      let all : bands - b + b ≡ bands = omega (arith, k .left) in
+      let term : ℕ → ℤ = λ j. getD ds (bands - 1 - j) (pos 0) *ℤ getD matrix (rowPlaces * j + i) (pos 0) in
+      let rest : (j : ℕ) → j < b → term (bands - b + j) ≡ pos 0 =
+      λ j h. nothing (getD ds (bands - 1 - (bands - b + j)) (pos 0)) (getD matrix (rowPlaces * (bands - b + j) + i) (pos 0)) (l .none (bands - 1 - (bands - b + j)) (omega (arith, k .left))) in
+      record { value = k .so-far ∙ sym (sum-stays (bands - b) b term rest) ∙ ap (λ (m : ℕ). gainSum m bands i matrix ds) all; bounded = omega (arith, k .bounded, k .left) }
 
 -- ---- the outputs of a row
 
@@ -180,7 +201,7 @@ out-back {s = s} {n} {r} few d en er =
 pub outputs-weighed : (bands : ℕ) (matrix ds outs : List ℤ) → 1 ≤ bands → ((j : ℕ) → j < length outs → getD outs j (pos 0) ≡ outOf (gainSum bands bands j matrix ds)) → RowWeighed bands matrix ds outs
 outputs-weighed bands matrix ds outs some stands = record { under = λ g rows d top count even sh. by g rows d top count even sh }
   where
-    by : (g : ℕ → ℤ) (rows : List (List ℤ)) → Differ bands g ds → g (suc bands) ≡ pos 0 → length rows ≡ bands → Even (length outs) rows →
+    by : (g : ℕ → ℤ) (rows : List (List ℤ)) → Differ g ds → g (suc bands) ≡ pos 0 → length rows ≡ bands → Even (length outs) rows →
         Shown (length outs) rows matrix → outs ≡ outputs (λ _. g) (columns rows)
     by g [] d top count even sh = absurd (omega arith)
     by g (row ∷ rows) d top count even sh =
@@ -189,6 +210,16 @@ outputs-weighed bands matrix ds outs some stands = record { under = λ g rows d 
         let long : length cols ≡ n = columns-length n row rows even in
         ext-getD (pos 0) outs (outputs (λ _. g) cols) (sym (outputs-length (λ _. g) cols ∙ long))
         (λ j l. stands j l ∙
-        ap outOf (ap (λ (m : ℕ). gainSum m m j matrix ds) (sym count) ∙ sum-is g ds matrix n j row rows l sh (rw count d) (rw count top) ∙
+        ap outOf (ap (λ (m : ℕ). gainSum m m j matrix ds) (sym count) ∙ sum-is g ds matrix n j row rows l sh d (rw count top) ∙
         ap (bandSum g) (sym (column-is n j row rows l even))) ∙
         sym (outputs-at g cols j (omega arith)))
+
+-- .. under any gains with those differences, none above the bands
+pub under-gains : {channels s n bands : ℕ} {matrix ds before after : List ℤ} (gains : List ℤ) → length gains ≤ bands → Differ (gainOf gains) ds → SideWeighed channels s n bands matrix ds before after →
+    WeighedUnder channels s n bands (gainOf gains) matrix before after
+under-gains {channels} {s} {n} {bands} {after = after} gains few d w =
+    let long : length (side channels s n after) ≡ n = side-length channels s n after in
+    record {
+      weighed = λ rows count even shown. w .weighed .under (gainOf gains) rows d (none-above gains few) count (rw long even) (rw long shown);
+      others = w .others;
+    }

@@ -17,16 +17,16 @@ loop-holds : tie.Need-loop-holds Inv-loop μ-loop
 loop-holds c = finding-starts (now (c .args .gains))
 
 difference-requires : tie.Need-difference-requires Inv-loop μ-loop
-difference-requires c κs = (c .loop-test .taken, c .before .before .pre .1)
+difference-requires c κs = (c .loop-test .taken, c .before .before .pre)
 
 mul-found : tie.Need-mul-found Inv-loop μ-loop
-mul-found c = omega (arith, c .before .loop-test .taken, c .before .before .before .pre .0)
+mul-found c = omega (arith, c .before .loop-test .taken, c .before .before .before .pre .counted)
 
 array-set-from-found : tie.Need-array-set-from-found Inv-loop μ-loop
-array-set-from-found c = omega (arith, c .before .loop-test .taken, c .before .before .before .pre .0)
+array-set-from-found c = omega (arith, c .before .loop-test .taken, c .before .before .before .pre .counted)
 
 add-i : tie.Need-add-i Inv-loop μ-loop
-add-i c = omega (arith, c .before .loop-test .taken, c .before .before .before .pre .0)
+add-i c = omega (arith, c .before .loop-test .taken, c .before .before .before .pre .counted)
 
 loop-less : tie.Need-loop-less Inv-loop μ-loop
 loop-less c = omega (arith, c .before .loop-test .taken)
@@ -35,7 +35,7 @@ loop-again : tie.Need-loop-again Inv-loop μ-loop
 loop-again c =
     let s = c .before .before .before in
     let l = c .before .before .loop in
-    finding-on (now (s .args .gains)) (l .found) (l .i) (l .inv) (c .difference .result) (c .before .loop-test .taken) (s .pre .0) (c .difference .ensures .0) (c .difference .ensures .1)
+    finding-on (now (s .args .gains)) (l .found) (l .i) (l .inv) (c .difference .result) (c .before .loop-test .taken) (s .pre .counted) (c .difference .ensures .0) (c .difference .ensures .1)
 
 returns : tie.Need-returns Inv-loop μ-loop
 returns c = finding-ends (now (c .before .before .args .gains)) (c .before .loop .found) (c .before .loop .i) (c .before .loop .inv) (c .loop-test .left)

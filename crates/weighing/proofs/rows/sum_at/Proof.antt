@@ -12,13 +12,13 @@ use Rattle.weighing.proofs.rows.sum_at.Statement.{statement}
 use Rattle.weighing.proofs.rows.sum_at.Tie as tie
 
 abbrev Inv-loop : tie.InvT-loop
-Inv-loop rows bands i differences sum₀ b₀ at₀ sum b at = Summing bands i rows differences (toZ w64 sum) b at
+Inv-loop rows bands top low i differences sum₀ b₀ at₀ sum b at = Summing bands i rows differences (toZ w64 sum) b at
 
 abbrev μ-loop : tie.MeasureT-loop
-μ-loop rows bands i differences sum₀ b₀ at₀ sum b at = b
+μ-loop rows bands top low i differences sum₀ b₀ at₀ sum b at = b
 
 loop-holds : tie.Need-loop-holds Inv-loop μ-loop
-loop-holds c = let a = c .args in summing-starts (a .bands) (a .i) (now (a .rows)) (now (a .differences))
+loop-holds c = let a = c .args in summing-starts (a .bands) (a .top) (a .i) (now (a .rows)) (now (a .differences)) (c .pre .4) (c .pre .5)
 
 sub-b : tie.Need-sub-b Inv-loop μ-loop
 sub-b c = search needs
@@ -40,7 +40,7 @@ shared-slice-copy-out-multiply-add c =
     let l = c .before .before .before .loop in
     let s = c .before .before .before .before in
     let a = s .args in
-    place-within (l .inv) (s .pre .0) (c .before .before .loop-test .taken) (s .pre .1) (s .pre .2)
+    place-within (l .inv) (s .pre .0) (omega (arith, c .before .before .loop-test .taken)) (s .pre .1) (s .pre .2)
 
 multiply-add-requires : tie.Need-multiply-add-requires Inv-loop μ-loop
 multiply-add-requires c κs =
@@ -51,8 +51,8 @@ multiply-add-requires c κs =
       weight-room (getD (now (a .differences)) (l .b - 1) (pos 0)) (s .pre .3 .range (l .b - 1)) (sfits-of (c .before .before .widen-arg .given)) (c .before .widen .ensures),
     )
 
-add-at : tie.Need-add-at Inv-loop μ-loop
-add-at c =
+add-at-2 : tie.Need-add-at-2 Inv-loop μ-loop
+add-at-2 c =
     let l = c .before .before .before .before .before .loop in
     let s = c .before .before .before .before .before .before in
     record { fits = omega (arith, l .inv .place, l .inv .left, s .pre .0, s .pre .1) }
@@ -65,14 +65,14 @@ loop-again c =
     let l = c .before .before .before .before .before .loop in
     let s = c .before .before .before .before .before .before in
     let a = s .args in
-    summing-on (l .inv) (s .pre .0) (c .before .before .before .before .loop-test .taken) (s .pre .3) (sfits-of (c .before .before .before .widen-arg .given)) (sfits-of (c .before .multiply-add-arg .given)) (c .before .before .widen .ensures) (c .multiply-add .ensures)
+    summing-on (l .inv) (s .pre .0) (omega (arith, c .before .before .before .before .loop-test .taken)) (s .pre .3) (sfits-of (c .before .before .before .widen-arg .given)) (sfits-of (c .before .multiply-add-arg .given)) (c .before .before .widen .ensures) (c .multiply-add .ensures)
 
 returns : tie.Need-returns Inv-loop μ-loop
 returns c =
     let l = c .before .loop in
     let s = c .before .before in
     let a = s .args in
-    summing-ends (l .inv) (s .pre .0) (c .loop-test .left)
+    summing-ends (l .inv) (s .pre .0) (s .pre .6) (c .loop-test .left)
 
 pub sum-at-spec : {M : Type 1} → statement M
 sum-at-spec =
@@ -80,6 +80,9 @@ sum-at-spec =
     (tie.spec
     Inv-loop
     μ-loop
+    (λ c. c .pre .4)
+    (λ c. record { fits = omega (arith, c .pre .0) })
+    (λ c. record { fits = omega (arith, c .pre .0, c .pre .1) })
     loop-holds
     sub-b
     mul-widen
@@ -88,7 +91,7 @@ sum-at-spec =
     mul-multiply-add
     shared-slice-copy-out-multiply-add
     multiply-add-requires
-    add-at
+    add-at-2
     loop-less
     loop-again
     returns)

@@ -16,10 +16,10 @@ use Rattle.weighing.proofs.rows.weigh_rows.Statement.{statement}
 use Rattle.weighing.proofs.rows.weigh_rows.Tie as tie
 
 abbrev Inv-loop : tie.InvT-loop
-Inv-loop rows bands differences channels s n output₀ i₀ output i = Putting channels s (λ j. outOf (gainSum bands bands j rows differences)) output₀ output i
+Inv-loop rows bands top low differences channels s n output₀ i₀ output i = Putting channels s (λ j. outOf (gainSum bands bands j rows differences)) output₀ output i
 
 abbrev μ-loop : tie.MeasureT-loop
-μ-loop rows bands differences channels s n output₀ i₀ output i = n - i
+μ-loop rows bands top low differences channels s n output₀ i₀ output i = n - i
 
 loop-holds : tie.Need-loop-holds Inv-loop μ-loop
 loop-holds c =
@@ -36,22 +36,22 @@ inside c =
     let s = c .before .before in
     let a = s .args in
     let l = c .before .loop in
-    omega (arith, l .inv .same-block, s .pre .6, place-inside (a .channels) (l .i) (a .s) (a .n) (c .loop-test .taken) (s .pre .5))
+    omega (arith, l .inv .same-block, s .pre .9, place-inside (a .channels) (l .i) (a .s) (a .n) (c .loop-test .taken) (s .pre .8))
 
 sum-at-requires : tie.Need-sum-at-requires Inv-loop μ-loop
-sum-at-requires c κs = let s = c .before .before in (s .pre .1, row-short c, s .pre .3, s .pre .4)
+sum-at-requires c κs = let s = c .before .before in (s .pre .1, row-short c, s .pre .3, s .pre .4, s .pre .5, s .pre .6, s .pre .7)
 
 nearest-4096-requires : tie.Need-nearest-4096-requires Inv-loop μ-loop
 nearest-4096-requires c κs = done-room (c .before .before .before .pre .1) (c .sum-at .ensures)
 
-mul-t13 : tie.Need-mul-t13 Inv-loop μ-loop
-mul-t13 c = let h = inside (c .before .before .before) in search needs
-
-add-t14 : tie.Need-add-t14 Inv-loop μ-loop
-add-t14 c = let h = inside (c .before .before .before) in search needs
-
 mul-t15 : tie.Need-mul-t15 Inv-loop μ-loop
 mul-t15 c = let h = inside (c .before .before .before) in search needs
+
+add-t16 : tie.Need-add-t16 Inv-loop μ-loop
+add-t16 c = let h = inside (c .before .before .before) in search needs
+
+mul-t17 : tie.Need-mul-t17 Inv-loop μ-loop
+mul-t17 c = let h = inside (c .before .before .before) in search needs
 
 add-i : tie.Need-add-i Inv-loop μ-loop
 add-i c = record { fits = omega (arith, row-short (c .before .before .before)) }
@@ -64,7 +64,7 @@ loop-again c =
     let s = c .before .before .before .before .before in
     let l = c .before .before .before .before .loop in
     let a = s .args in
-    putting-on (a .channels) (a .s) (λ j. outOf (gainSum (a .bands) (a .bands) j (now (a .rows)) (now (a .differences)))) (now (a .output)) (l .inv) (s .pre .5) (a .n) _ (c .before .before .before .loop-test .taken) (s .pre .6)
+    putting-on (a .channels) (a .s) (λ j. outOf (gainSum (a .bands) (a .bands) j (now (a .rows)) (now (a .differences)))) (now (a .output)) (l .inv) (s .pre .8) (a .n) _ (c .before .before .before .loop-test .taken) (s .pre .9)
     (out-back (s .pre .1) (c .before .before .sum-at .ensures) (c .before .nearest-4096 .ensures) (c .limit-24 .ensures))
 
 returns : tie.Need-returns Inv-loop μ-loop
@@ -77,8 +77,8 @@ returns c =
     record {
       weighed =
           outputs-weighed (a .bands) (now (a .rows)) (now (a .differences)) outs (s .pre .0)
-          (λ j h. put-here (a .channels) (a .s) f (now (a .output)) (l .inv) (s .pre .5) (a .n) j (c .loop-test .left) (omega (arith, side-length (a .channels) (a .s) (a .n) (l .output))));
-      others = λ t h q. put-others (a .channels) (a .s) f (now (a .output)) (l .inv) (s .pre .5) (a .n) t h q;
+          (λ j h. put-here (a .channels) (a .s) f (now (a .output)) (l .inv) (s .pre .8) (a .n) j (c .loop-test .left) (omega (arith, side-length (a .channels) (a .s) (a .n) (l .output))));
+      others = λ t h q. put-others (a .channels) (a .s) f (now (a .output)) (l .inv) (s .pre .8) (a .n) t h q;
     }
 
 pub weigh-rows-spec : {M : Type 1} → statement M
@@ -91,9 +91,9 @@ weigh-rows-spec =
     sum-at-requires
     nearest-4096-requires
     (λ c κs. search needs)
-    mul-t13
-    add-t14
     mul-t15
+    add-t16
+    mul-t17
     (λ c. inside (c .before .before .before))
     add-i
     loop-less
