@@ -1,0 +1,5 @@
+-- The feeds, and the call.
+pub mod Feeds
+pub mod Cross
+pub mod Answer
+pub mod Helpers

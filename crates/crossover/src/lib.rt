@@ -1,0 +1,3 @@
+// Two feeds from one tree: the crossover call.
+mod both;
+pub mod cross;
