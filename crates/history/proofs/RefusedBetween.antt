@@ -28,13 +28,13 @@ use Rattle.history.proofs.Demands.{written-near}
 -- ---- one call
 
 -- an accepted call answers the number of its frames
-accepted-length : (m : List ℤ) (c : Call) → isAccepted m c ≡ true → blockAnswer (called m c .result) ≡ accepted (framesOf m (c .input))
+pub accepted-length : (m : List ℤ) (c : Call) → isAccepted m c ≡ true → blockAnswer (called m c .result) ≡ accepted (framesOf m (c .input))
 accepted-length m c e =
     ap (λ (o : Outcome Blocked (List ℤ × List ℤ)). blockAnswer (o .result))
     (unnumbered-ran m (c .gains) (c .input) (c .before) (eqb-true (numberIn (blockAnswer (called m c .result))) 0 e) .is)
 
 -- a refused call leaves the memory
-refused-memory : (m : List ℤ) (c : Call) → isAccepted m c ≡ false → afterCall m c ≡ m
+pub refused-memory : (m : List ℤ) (c : Call) → isAccepted m c ≡ false → afterCall m c ≡ m
 refused-memory m c e =
     ap (λ (l : List ℤ × List ℤ). l .0)
     (refused-keeps blockAnswer (blockChecks m (c .gains) (c .input) (c .before)) (m, c .before) (equalised m (c .gains) (c .input)) (Written (framesOf m (c .input)))

@@ -1,0 +1,2 @@
+-- Plain and crossover calls one after the other.
+pub mod Mixed
