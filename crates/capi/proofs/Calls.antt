@@ -14,6 +14,9 @@ use Rattle.octave.specs.Answer.{lengthAnswer, preparedAnswer, blockAnswer}
 use Rattle.octave.specs.Block.{blockOf}
 use Rattle.octave.specs.Memory.{memoryLengthOf, prepareOf}
 use Rattle.octave.proofs.Refusals.{first-bad}
+use Rattle.crossover.specs.Answer.{crossAnswer}
+use Rattle.crossover.specs.Cross.{crossOf}
+use Rattle.crossover.proofs.Refusals as crossing
 use Rattle.floats.specs.Value.{floatSample, floatAnswer, toFloat, floatedAnswer}
 use Rattle.floats.specs.Block.{isNumber, floatBlockAnswer}
 use Rattle.gain.specs.Answer.{answerOf}
@@ -32,7 +35,7 @@ use Rattle.encoding.proofs.Encoding.{returnable-apart, counted-apart}
 use Rattle.capi.proofs.Floats.{float-returnable, floated-counted, floats-counted, first-in-c}
 use Rattle.capi.specs.FloatBlock.{floatsInC}
 use Rattle.capi.proofs.Reading.{read-counted}
-use Rattle.capi.proofs.Returnable.{length-counted, prepare-counted, block-counted, gain-returnable, write-counted, sample-returnable, put-counted}
+use Rattle.capi.proofs.Returnable.{length-counted, prepare-counted, block-counted, cross-counted, gain-returnable, write-counted, sample-returnable, put-counted}
 
 -- an answer that comes back as it went in
 abbrev pub Decoded : Answer ℤ → Type 0
@@ -63,6 +66,17 @@ pub place-told : (memory gains input output : List ℤ) (i : ℕ) → decode (en
     FirstAt leastSample mostSample input i
 place-told memory gains input output i e =
     first-bad memory gains input output i (refused-count (blockAnswer (blockOf memory gains input output .result)) 7 i (sym (block-decoded memory gains input output) ∙ e))
+
+pub cross-decoded : (memory gains : List ℤ) (split : ℤ) (input low high : List ℤ) → Decoded (ofCount (crossAnswer (crossOf memory gains split input low high .result)))
+cross-decoded memory gains split input low high =
+    count-decoded (crossAnswer (crossOf memory gains split input low high .result)) (cross-counted memory gains split input low high)
+
+-- rule 12.4: .. of the crossover likewise
+pub cross-place-told : (memory gains : List ℤ) (split : ℤ) (input low high : List ℤ) (i : ℕ) →
+    decode (encode (ofCount (crossAnswer (crossOf memory gains split input low high .result)))) ≡ refused 8 i → FirstAt leastSample mostSample input i
+cross-place-told memory gains split input low high i e =
+    crossing.first-bad memory gains split input low high i
+    (refused-count (crossAnswer (crossOf memory gains split input low high .result)) 7 i (sym (cross-decoded memory gains split input low high) ∙ e))
 
 pub gain-decoded : (c : Command) → Decoded (answerOf (commandGain c))
 gain-decoded c = decoded (answerOf (commandGain c)) (gain-returnable c)

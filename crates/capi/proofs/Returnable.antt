@@ -27,6 +27,9 @@ use Rattle.octave.specs.declared.memory.Prepared.the-variants.{Delay}
 use Rattle.octave.proofs.Layouts.{line-small, memory-small}
 use Rattle.octave.proofs.Refusals.{fault-number, bad-place}
 use Rattle.octave.proofs.Ranges.{bands-of, channels-of}
+use Rattle.crossover.specs.Answer.{crossAnswer}
+use Rattle.crossover.specs.Cross.{crossChecks, crossed, crossOf}
+use Rattle.crossover.specs.declared.cross.Crossed as crossing
 use Rattle.gain.specs.Answer.{answerOf}
 use Rattle.gain.specs.Promise.{commandGain}
 use Rattle.gain.specs.declared.Command.{Command}
@@ -78,6 +81,11 @@ pub block-counted : (memory gains input output : List ℤ) → Counted (blockAns
 block-counted memory gains input output =
     every (memory, output) (equalised memory gains input) (Written (framesOf memory input)) (λ (r : Blocked). Counted (blockAnswer r))
     (blockChecks memory gains input output) (search (eaching, fault-returned, sample-returned, frames-few) depth 20)
+
+pub cross-counted : (memory gains : List ℤ) (split : ℤ) (input low high : List ℤ) → Counted (crossAnswer (crossOf memory gains split input low high .result))
+cross-counted memory gains split input low high =
+    every (memory, low, high) (crossed memory gains (natAbs split) input) (crossing.the-variants.Written (framesOf memory input)) (λ (r : crossing.Crossed). Counted (crossAnswer r))
+    (crossChecks memory gains split input low high) (search (eaching, fault-returned, sample-returned, frames-few) depth 24)
 
 -- ---- the header's writer and the codec
 

@@ -5,3 +5,4 @@ mod equaliser;
 mod float_codec;
 mod gains;
 mod headers;
+mod two_feeds;

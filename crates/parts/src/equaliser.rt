@@ -30,7 +30,7 @@ pub fn prepared_parts(answer: Prepared) -> CountParts
 }
 
 // The number of what is wrong with a lent memory.
-fn fault_number(fault: Fault) -> u8
+pub(crate) fn fault_number(fault: Fault) -> u8
     ensures { λ r. ⌜ r ≡ faultNumber fault ⌝ }
 {
     match fault {

@@ -4,3 +4,4 @@ pub mod equaliser;
 pub mod float_codec;
 pub mod gains;
 pub mod headers;
+pub mod two_feeds;
