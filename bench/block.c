@@ -1,8 +1,8 @@
 /* oeq_block beside two C forms of the same tree, the plain one and the flat one, on the same noise, in turns; beside itself with two
- * channels, that noise on the left and another on the right; and, with -DBEFORE, beside another archive's oeq_block, renamed before_block.
- * `block BANDS LENGTH ROUNDS` prints the medians, nanoseconds a frame, of oeq_block, plain, flat, two channels and before, in blocks of
- * LENGTH frames; `block BANDS LENGTH ROUNDS oeq`, `plain`, `flat`, `two` or `before` runs one of them alone, so many times round the
- * rings, to count instructions. */
+ * channels, that noise on the left and another on the right; beside oeq_crossover, half of the bands in each feed; and, with -DBEFORE,
+ * beside another archive's oeq_block, renamed before_block. `block BANDS LENGTH ROUNDS` prints the medians, nanoseconds a frame, of
+ * oeq_block, plain, flat, two channels, crossover and before, in blocks of LENGTH frames; `block BANDS LENGTH ROUNDS oeq`, `plain`, `flat`,
+ * `two`, `cross` or `before` runs one of them alone, so many times round the rings, to count instructions. */
 #include <stdio.h>
 #include <stdlib.h>
 #include <string.h>
@@ -20,11 +20,11 @@ enum { MOST = OEQ_BLOCK_MOST, TURN = 32768 };
 __asm__(SKIP(SHIFT));
 #endif
 
-enum form { OEQ, PLAIN, FLAT, TWO, OTHER };
+enum form { OEQ, PLAIN, FLAT, TWO, CROSS, OTHER };
 
-static const char *const names[] = {"oeq", "plain", "flat", "two", "before"};
-static int32_t memory[3][OEQ_MEMORY_LENGTH(10, 2)], gains[10], input[MOST], frames[2 * MOST], output[5][2 * MOST];
-static struct tree tree;
+static const char *const names[] = {"oeq", "plain", "flat", "two", "cross", "before"};
+static int32_t memory[4][OEQ_MEMORY_LENGTH(10, 2)], gains[10], input[MOST], frames[2 * MOST], output[6][2 * MOST], horn[MOST];
+static struct tree tree, crossed;
 static struct flat flat;
 
 typedef int64_t block_call(int32_t *memory, size_t memory_length, const int32_t *gains, size_t gains_length,
@@ -80,6 +80,9 @@ static void run(enum form form, int bands, size_t count, size_t length)
         case TWO:
             answer = oeq_block(memory[1], OEQ_MEMORY_LENGTH(m, 2), gains, m, frames + 2 * at, 2 * length, out + at, 2 * length);
             break;
+        case CROSS:
+            answer = oeq_crossover(memory[3], OEQ_MEMORY_LENGTH(m, 1), gains, m, bands / 2, in, length, out, length, horn + at, length);
+            break;
         case OTHER: answer = other(memory[2], other_length, gains, m, in, length, out, length); break;
         }
         if (answer != (int64_t)length)
@@ -87,16 +90,27 @@ static void run(enum form form, int bands, size_t count, size_t length)
     }
 }
 
-/* Whether all forms gave the same outputs; of two channels the left ones. */
+/* Whether all forms gave the same outputs, of two channels the left ones; and the crossover, whose outputs are others, the same memory. */
 static int alike(void)
 {
+    if (memcmp(memory[0], memory[3], (size_t)OEQ_MEMORY_LENGTH(memory[0][0], 1) * sizeof(int32_t)) != 0)
+        return 0;
     for (size_t i = 0; i < MOST; i++)
         if (output[TWO][2 * i] != output[OEQ][i])
             return 0;
     for (int form = PLAIN; form < FORMS; form++)
-        if (form != TWO && memcmp(output[OEQ], output[form], MOST * sizeof(int32_t)) != 0)
+        if (form != TWO && form != CROSS && memcmp(output[OEQ], output[form], MOST * sizeof(int32_t)) != 0)
             return 0;
     return 1;
+}
+
+/* Whether the crossover, from prepared memory, gives the feeds of the plain form. */
+static int feeds_alike(int bands)
+{
+    static int32_t low[MOST], high[MOST];
+    tree_crossover(&crossed, gains, bands / 2, input, low, high, MOST);
+    run(CROSS, bands, MOST, MOST);
+    return memcmp(low, output[CROSS], sizeof low) == 0 && memcmp(high, horn, sizeof high) == 0;
 }
 
 static int by_size(const void *a, const void *b)
@@ -127,9 +141,11 @@ static int prepare(int bands)
     for (int channels = 1; channels <= 2; channels++)
         if (oeq_is_refusal(oeq_prepare(bands, channels, memory[channels - 1], (size_t)OEQ_MEMORY_LENGTH(bands, channels))))
             return 0;
+    memcpy(memory[3], memory[0], sizeof memory[3]);
     for (int i = 0; i < bands; i++)
         gains[i] = 1024 * (i + 3);
     tree_prepare(&tree, bands, 1);
+    tree_prepare(&crossed, bands, 1);
     flat_prepare(&flat, bands);
     other_length = prepare_other(bands);
     return 1;
@@ -147,6 +163,11 @@ int main(int argc, char **argv)
                 run((enum form)form, bands, (size_t)rounds * round, round / 8);
         return 0;
     }
+    if (!feeds_alike(bands)) {
+        fprintf(stderr, "the feeds differ\n");
+        return 1;
+    }
+    memset(memory[3] + 2, 0, sizeof memory[3] - 2 * sizeof(int32_t));
     double *times[FORMS];
     for (int form = 0; form < FORMS; form++)
         times[form] = malloc((size_t)rounds * sizeof(double));

@@ -27,7 +27,9 @@ int main(int argc, char **argv)
     histories(35 * more);
     wild_memories(60 * more);
     sides(10 * more);
+    crossovers(4 * more);
     block_refusals(20 * more);
+    crossover_refusals(more);
     bad_samples();
     gain_commands(8000000L * more);
     samples();

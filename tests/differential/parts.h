@@ -6,7 +6,9 @@ void lengths(void);             /* band and channel counts, memory lengths, prep
 void histories(int rounds);     /* long signals in random cuts, from prepared memory */
 void wild_memories(int rounds); /* any numbers in accepted memory */
 void sides(int rounds);         /* two channels beside one, and exchanged */
+void crossovers(int rounds);    /* both feeds, plain calls between, what the feeds add up to */
 void block_refusals(int rounds);
+void crossover_refusals(int rounds);
 void bad_samples(void);         /* one at every place of a block, and more behind it */
 void gain_commands(long patterns);
 void samples(void);

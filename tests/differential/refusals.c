@@ -1,11 +1,12 @@
-/* block with any faults at once: the first in rule 6.8's order is answered, and nothing lent has changed. */
+/* block and crossover with any faults at once: the first in rule 6.8's order is answered, and nothing lent has changed. */
 #include "check.h"
 #include "lent.h"
 #include "octave_eq.h"
 #include "parts.h"
 #include "signals.h"
 
-enum { FAULTS = 6 };
+/* Faults as bits, in rule 6.8's order; the split's is the crossover's alone. */
+enum { MEMORY = 1, GAIN_COUNT = 2, SPLIT = 4, GAIN = 8, LENGTHS = 16, TOO_LONG = 32, SAMPLE = 64, FAULTS = 7 };
 
 /* The number for a memory, by rule 5.4: its counts, its length, its position; 0 if it is accepted. */
 static int memory_fault(const int32_t *memory, size_t length)
@@ -63,50 +64,75 @@ static void spoil_sample(int32_t *input, size_t length)
     input[place] = wrong_sample();
 }
 
-/* Makes the lengths of input and output wrong: they differ, or they are not whole frames, or both. */
-static void spoil_lengths(int channels, size_t *input, size_t *output)
+static size_t another_length(size_t length)
 {
-    uint32_t way = random_below(channels == 2 ? 4 : 2);
-    if (way >= 2)
-        *output = *input += random_bits() & 1 ? 1 : -1;
-    if (way != 2)
-        *output += random_bits() & 1 ? (size_t)(1 + random_below(2)) : (size_t)-1;
+    return length + (random_bits() & 1 ? (size_t)(1 + random_below(2)) : (size_t)-1);
 }
 
-/* The earliest of a set of faults: bit 0 is the memory's, with its own number, and bits 1 to 5 are 4 to 8. */
+/* Makes lengths wrong: that of the output differs, of a crossover that of either feed or of both, alike or with twice the input's in all; or
+   none is whole frames; or both. */
+static void spoil_lengths(int channels, int crossed, size_t *input, size_t *output, size_t *horn)
+{
+    uint32_t way = random_below(channels == 2 ? 4 : 2), which = crossed ? random_below(4) : 0;
+    if (way >= 2)
+        *horn = *output = *input += random_bits() & 1 ? 1 : -1;
+    if (way == 2)
+        return;
+    if (which == 1)
+        *horn = another_length(*horn);
+    else
+        *output = another_length(*output);
+    if (which == 2)
+        *horn = *output;
+    else if (which == 3 && *output <= 2 * *input)
+        *horn = 2 * *input - *output;
+}
+
+/* A split that leaves a feed no band. */
+static int32_t wrong_split(int bands)
+{
+    const int32_t wrong[] = {0, -1, bands, bands + 1, -bands, 256 + 1, 65536 + 1, INT32_MIN, INT32_MIN + 1, INT32_MAX};
+    return one_of(wrong, 10);
+}
+
+/* The earliest of a set of faults; the memory's has its own number. */
 static int first_number(int set, int memory_number)
 {
+    static const int numbers[FAULTS] = {0, 4, 10, 5, 6, 7, 8};
     int bit = 0;
     while (!(set >> bit & 1))
         bit++;
-    return bit == 0 ? memory_number : bit + 3;
+    return bit == 0 ? memory_number : numbers[bit];
 }
 
-/* What is lent to a call with the faults of a set; of the memory's places so many are told. */
+/* What is lent to a call with the faults of a set; of the memory's places so many are told. The plain call is lent no horn feed. */
 struct call {
-    int bands, channels, set;
+    int bands, channels, set, crossed;
+    int32_t split;
     size_t frames, told;
-    struct places memory, gains, input, output;
+    struct places memory, gains, input, output, horn;
 };
 
 /* Lengths with the faults of the set, and numbers that are right. */
-static struct call call_new(int bands, int channels, int set)
+static struct call call_new(int bands, int channels, int crossed, int set)
 {
-    struct call c = {.bands = bands, .channels = channels, .set = set, .frames = 1 + random_below(100)};
+    struct call c = {.bands = bands, .channels = channels, .set = set, .crossed = crossed, .frames = 1 + random_below(100)};
     size_t gain_count = (size_t)bands;
-    if (set & 16)
+    c.split = set & SPLIT ? wrong_split(bands) : 1 + (int32_t)random_below((uint32_t)bands - 1);
+    if (set & TOO_LONG)
         c.frames = 4097 + (random_below(4) ? random_below(3000) : 0);
     else if (random_below(32) == 0)
         c.frames = 4096;
-    if (set & 2)
+    if (set & GAIN_COUNT)
         gain_count = random_bits() & 1 ? (size_t)bands + 1 : (size_t)bands - 1;
-    size_t length = c.frames * (size_t)channels, output_length = length;
-    if (set & 8)
-        spoil_lengths(channels, &length, &output_length);
+    size_t length = c.frames * (size_t)channels, output_length = length, horn_length = length;
+    if (set & LENGTHS)
+        spoil_lengths(channels, crossed, &length, &output_length, &horn_length);
     c.memory = places_new((size_t)oeq_memory_length(bands, channels));
     c.gains = places_new(gain_count);
     c.input = places_new(length);
     c.output = places_new(output_length);
+    c.horn = places_new(crossed ? horn_length : 0);
     oeq_prepare(bands, channels, c.memory.lent, c.memory.length);
     for (size_t i = 0; i < gain_count; i++)
         c.gains.lent[i] = (int32_t)random_below(16385);
@@ -119,13 +145,13 @@ static struct call call_new(int bands, int channels, int set)
 static void spoil(struct call *c)
 {
     struct places memory = c->memory;
-    while (c->set & 1 && memory_fault(memory.lent, memory.length) == 0)
+    while (c->set & MEMORY && memory_fault(memory.lent, memory.length) == 0)
         for (int ways = 1 + (int)random_below(3); ways > 0; ways--)
             spoil_memory(&memory, c->bands, c->channels);
     c->told = memory.length;
-    if (c->set & 4)
+    if (c->set & GAIN)
         spoil_gain(c->gains.lent, c->gains.length);
-    for (int ways = c->set & 32 ? 1 + (int)random_below(3) : 0; ways > 0; ways--)
+    for (int ways = c->set & SAMPLE ? 1 + (int)random_below(3) : 0; ways > 0; ways--)
         spoil_sample(c->input.lent, c->input.length);
 }
 
@@ -134,27 +160,37 @@ static void check_answer(const struct call *c, int64_t answer)
 {
     if (c->set == 0) {
         CHECK(answer == (int64_t)c->frames, "answered %lld", (long long)answer);
-        CHECK(places_around_same(c->memory) && places_around_same(c->output), "%d bands, %d channels", c->bands, c->channels);
+        CHECK(places_around_same(c->memory) && places_around_same(c->output) && places_around_same(c->horn), "%d bands, %d channels",
+              c->bands, c->channels);
     } else {
         int number = first_number(c->set, memory_fault(c->memory.lent, c->told));
         size_t place = number == 8 ? first_bad(c->input.lent) : 0;
         IS_REFUSAL_AT(answer, number, place);
         CHECK(oeq_is_refusal(answer) && oeq_refusal_number(answer) == number && oeq_refusal_place(answer) == (int64_t)place,
               "the header's helpers");
-        CHECK(places_same(c->memory) && places_same(c->output), "%d bands, %d channels, refused %d", c->bands, c->channels, number);
+        CHECK(places_same(c->memory) && places_same(c->output) && places_same(c->horn), "%d bands, %d channels, refused %d", c->bands,
+              c->channels, number);
     }
     CHECK(places_same(c->gains) && places_same(c->input), "%d bands, %d channels", c->bands, c->channels);
 }
 
-static void call_with(int bands, int channels, int set)
+static int64_t answer_of(const struct call *c)
 {
-    struct call c = call_new(bands, channels, set);
-    struct places *lent[] = {&c.memory, &c.gains, &c.input, &c.output};
+    if (c->crossed)
+        return oeq_crossover(c->memory.lent, c->told, c->gains.lent, c->gains.length, c->split, c->input.lent, c->input.length,
+                             c->output.lent, c->output.length, c->horn.lent, c->horn.length);
+    return oeq_block(c->memory.lent, c->told, c->gains.lent, c->gains.length, c->input.lent, c->input.length, c->output.lent, c->output.length);
+}
+
+static void call_with(int bands, int channels, int crossed, int set)
+{
+    struct call c = call_new(bands, channels, crossed, set);
+    struct places *lent[] = {&c.memory, &c.gains, &c.input, &c.output, &c.horn};
     spoil(&c);
-    for (int i = 0; i < 4; i++)
+    for (int i = 0; i < 5; i++)
         places_mark(*lent[i]);
-    check_answer(&c, oeq_block(c.memory.lent, c.told, c.gains.lent, c.gains.length, c.input.lent, c.input.length, c.output.lent, c.output.length));
-    for (int i = 0; i < 4; i++)
+    check_answer(&c, answer_of(&c));
+    for (int i = 0; i < 5; i++)
         places_free(*lent[i]);
 }
 
@@ -216,8 +252,17 @@ void block_refusals(int rounds)
     for (int round = 0; round < rounds; round++)
         for (int bands = 2; bands <= 10; bands++)
             for (int set = 0; set < 1 << FAULTS; set++)
-                call_with(bands, 1 + (round + set + bands) % 2, set);
+                if (!(set & SPLIT))
+                    call_with(bands, 1 + (round + set + bands) % 2, 0, set);
     IS_REFUSAL(oeq_block(NULL, 0, NULL, 0, NULL, 0, NULL, 0), 31);
     block_lengths();
     counts_with_their_length();
+}
+
+void crossover_refusals(int rounds)
+{
+    for (int round = 0; round < rounds; round++)
+        for (int bands = 2; bands <= 10; bands++)
+            for (int set = 0; set < 1 << FAULTS; set++)
+                call_with(bands, 1 + (round + set + bands) % 2, 1, set);
 }

@@ -1,5 +1,6 @@
-/* reckon CHANNELS GAIN.. <samples >outputs: frames of 24-bit samples through the tree, a gain for each band, lowest first. The delay is
-   taken out, and zeros follow the input: for eight gains, what eqwave has to write. */
+/* reckon CHANNELS SPLIT GAIN.. <samples >outputs: frames of 24-bit samples through the tree, a gain for each band, lowest first. The delay
+   is taken out, and zeros follow the input: for eight gains and the split 0, what eqwave has to write. With another split each sample has two
+   outputs, the bass feed's and the horn feed's. */
 #include <stdio.h>
 #include <stdlib.h>
 #include <string.h>
@@ -8,7 +9,8 @@
 enum { ROOM = TREE_LINE * TREE_MOST_CHANNELS };
 
 static struct tree tree;
-static int32_t gains[TREE_MOST_BANDS], input[ROOM], output[ROOM];
+static int32_t gains[TREE_MOST_BANDS], input[ROOM], output[2][ROOM];
+static int split;
 static size_t left_out;
 
 /* Reads up to ROOM samples: whole frames, since the input has no part of one and ROOM is even. */
@@ -23,25 +25,40 @@ static size_t get(void)
     return n;
 }
 
-/* Equalises so many samples and writes those that come after the delay. */
+static void put_sample(int32_t z)
+{
+    putchar(z & 255), putchar(z >> 8 & 255), putchar(z >> 16 & 255);
+}
+
+/* Equalises so many samples and writes what comes after the delay. */
 static void put(size_t n)
 {
-    tree_block(&tree, gains, input, output, n / (size_t)tree.channels);
+    size_t frames = n / (size_t)tree.channels;
+    if (split)
+        tree_crossover(&tree, gains, split, input, output[0], output[1], frames);
+    else
+        tree_block(&tree, gains, input, output[0], frames);
     for (size_t i = 0; i < n; i++)
-        if (left_out > 0)
+        if (left_out > 0) {
             left_out--;
-        else
-            putchar(output[i] & 255), putchar(output[i] >> 8 & 255), putchar(output[i] >> 16 & 255);
+        } else {
+            put_sample(output[0][i]);
+            if (split)
+                put_sample(output[1][i]);
+        }
 }
 
 int main(int argc, char **argv)
 {
-    int channels = argc > 1 ? atoi(argv[1]) : 0, bands = argc - 2;
+    int channels = argc > 1 ? atoi(argv[1]) : 0, bands = argc - 3;
     size_t n, late;
     if (bands < 2 || bands > TREE_MOST_BANDS || channels < 1 || channels > TREE_MOST_CHANNELS)
         return 1;
+    split = atoi(argv[2]);
+    if (split < 0 || split >= bands)
+        return 1;
     for (int i = 0; i < bands; i++)
-        gains[i] = atoi(argv[i + 2]);
+        gains[i] = atoi(argv[i + 3]);
     tree_prepare(&tree, bands, channels);
     late = (size_t)channels * 9 * ((1u << (bands - 1)) - 1);
     left_out = late;

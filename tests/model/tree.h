@@ -19,4 +19,7 @@ void tree_prepare(struct tree *tree, int bands, int channels);
 /* Interleaved frames, so many: sample i of side s is at place channels * i + s. */
 void tree_block(struct tree *tree, const int32_t *gains, const int32_t *input, int32_t *output, size_t frames);
 
+/* The two feeds of the bands: each the sum of its own, bands 1..split and the others, rounded and limited by itself. */
+void tree_crossover(struct tree *tree, const int32_t *gains, int split, const int32_t *input, int32_t *bass, int32_t *horn, size_t frames);
+
 #endif

@@ -118,15 +118,33 @@ def held_back(lines, M, m, size, new):
     return [x - y for x, y in zip(lines[m][late : late + new], lines[m - 1][low : low + new])]
 
 
-def one_side(M, at, rings, gains, samples):
-    """A side's outputs, and its rings after the block."""
+def weighed(bands, gains, feed):
+    """The bands of a feed, each times its gain, added up at every new sample, rounded once and limited once."""
+    sums = zip(*([gains[m - 1] * z for z in bands[m - 1]] for m in feed))
+    return [limit(nearest(sum(values), UNITY), LEAST, MOST) for values in sums]
+
+
+def one_side(M, at, rings, gains, samples, feeds):
+    """A side's outputs for each feed, which is a list of bands, and its rings after the block."""
     size, new = ring_length(M), len(samples)
     lines = lines_of(M, at, rings, samples)
     bands = [held_back(lines, M, m, size, new) for m in range(1, M + 1)]
-    output = [limit(nearest(sum(g * b for g, b in zip(gains, values)), UNITY), LEAST, MOST) for values in zip(*bands)]
     after = (at + new) % size
     kept = [lines[k][-size:] for k in range(M, 1, -1)]
-    return output, [z for last in kept for z in last[size - after :] + last[: size - after]]
+    return [weighed(bands, gains, feed) for feed in feeds], [z for last in kept for z in last[size - after :] + last[: size - after]]
+
+
+def equalise(memory, gains, samples, feeds, outputs):
+    """One pass: memory and the output of each feed are changed in place; the number of frames written."""
+    M, channels, at = memory[:HEAD]
+    for s in range(channels):
+        start, end = HEAD + s * side_length(M), HEAD + (s + 1) * side_length(M)
+        found, memory[start:end] = one_side(M, at, memory[start:end], gains, samples[s::channels], feeds)
+        for output, values in zip(outputs, found):
+            output[s::channels] = values
+    frames = len(samples) // channels
+    memory[2] = (at + frames) % ring_length(M)
+    return ("written", frames)
 
 
 def block(memory, gains, samples, output):
@@ -134,13 +152,23 @@ def block(memory, gains, samples, output):
     refused = refusal(memory, gains, samples, output)
     if refused:
         return ("refused", *refused)
-    M, channels, at = memory[:HEAD]
-    for s in range(channels):
-        start, end = HEAD + s * side_length(M), HEAD + (s + 1) * side_length(M)
-        output[s::channels], memory[start:end] = one_side(M, at, memory[start:end], gains, samples[s::channels])
-    frames = len(samples) // channels
-    memory[2] = (at + frames) % ring_length(M)
-    return ("written", frames)
+    return equalise(memory, gains, samples, [range(1, memory[0] + 1)], [output])
+
+
+def crossover_refusal(memory, gains, split, samples, bass, horn):
+    """The first of the refusals 31, 32, 33, 4, 10, 5 to 8 that holds and its place, or None."""
+    refused = refusal(memory, gains, samples, bass if len(bass) != len(samples) else horn)
+    if refused and refused[0] in (31, 32, 33, 4):
+        return refused
+    return refused if 1 <= split < memory[0] else (10, 0)
+
+
+def crossover(memory, gains, split, samples, bass, horn):
+    """The same for two feeds: bands 1..split and the others."""
+    refused = crossover_refusal(memory, gains, split, samples, bass, horn)
+    if refused:
+        return ("refused", *refused)
+    return equalise(memory, gains, samples, [range(1, split + 1), range(split + 1, memory[0] + 1)], [bass, horn])
 
 
 def prepared(M, channels=1):
@@ -174,6 +202,36 @@ def check_bench():
     assert at(2, [2048, 2048], [1, -1, 3], (9, 10, 11)) == [1, -1, 2]
     assert at(2, [8192, 8192], [8000000, -8000000], (9, 10)) == [8388607, -8388608]
     assert [delay(M) for M in (2, 8, 10)] == [9, 1143, 4599]
+
+
+def check_crossover():
+    """Rule 14.2: the readings of two feeds; each feed alone and the memory are the block's, and refused calls change nothing."""
+    signs = [(c > 0) - (c < 0) for c in (dict(COEFFICIENTS).get(i, 0) for i in range(19))]
+    for gain, samples, at, expected in (
+        (4096, [100000], (0, 2, 9), [(313, -313), (-1338, 1338), (50000, 50000)]),
+        (2048, [2], (9,), [(1, 1)]),
+        (4096, [MOST * sign for sign in signs], (18,), [(MOST, -3375575)]),
+    ):
+        fed, bass, horn = samples + [0] * (40 - len(samples)), [0] * 40, [0] * 40
+        assert crossover(prepared(2), [gain] * 2, 1, fed, bass, horn) == ("written", 40)
+        assert [(bass[n], horn[n]) for n in at] == expected
+        assert samples != [100000] or [x + y for x, y in zip(bass, horn)] == [0] * 9 + [100000] + [0] * 30
+    samples, gains = [8388607, -8388608, 1, -1, 100000, 7] * 10, [5000, 16384, 4096, 0, 1]
+    for M in (2, 3, 5):
+        for split in range(1, M):
+            memory, plain, other = prepared(M, 2), prepared(M, 2), prepared(M, 2)
+            feeds, alone = ([0] * 60, [0] * 60), ([0] * 60, [0] * 60)
+            assert crossover(memory, gains[:M], split, samples, *feeds) == ("written", 30)
+            assert block(plain, gains[:split] + [0] * (M - split), samples, alone[0]) == ("written", 30)
+            assert block(other, [0] * split + gains[split:M], samples, alone[1]) == ("written", 30)
+            assert feeds == alone and memory == plain == other
+    for split, wrong, number in ((0, 4096, 10), (2, 4096, 10), (-1, 16385, 10), (1, 16385, 5)):
+        memory = prepared(2)
+        assert crossover(memory, [4096, wrong], split, [1], [5], [6]) == ("refused", number, 0) and memory == prepared(2)
+    assert crossover(prepared(2), [4096], 0, [1], [5], [6]) == ("refused", 4, 0)
+    assert crossover(prepared(2), [4096] * 2, 1, [1], [5], []) == ("refused", 6, 0)
+    assert crossover(prepared(2), [4096] * 2, 1, [1], [], [6]) == ("refused", 6, 0)
+    assert crossover(prepared(2), [4096] * 2, 1, [1, 8388608], [5] * 2, [6] * 2) == ("refused", 8, 1)
 
 
 def check_sides():
