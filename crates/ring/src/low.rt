@@ -1,6 +1,26 @@
-// The low-pass sum: eleven products a line, none for a zero coefficient. One function with one contract.
+// The low-pass sum. Mirror samples, i and 18 - i back, weigh the same: they are added first, so that a line costs six products; a zero
+// coefficient costs none.
+ghost use mathlib.Core.Path.{_≡_};
+ghost use Prim.Native.Nat.{_≤_, _^_};
+ghost use lib.IntN.{natAbs, _+ℤ_, _*ℤ_};
 ghost use Rattle.ring.specs.Helpers.{Weighed};
 use whole::products::multiply_add;
+use whole::products::widen;
+
+// The sum of two places, whatever they hold: it takes 33 bits, and no bit is lost.
+fn pair(a: i32, b: i32) -> i64
+    ensures { λ r. ⌜ r ≡ a +ℤ b ⌝ }
+{
+    widen(a) + widen(b)
+}
+
+// sum + c·(a + b): two samples of one weight.
+fn add_pair(sum: i64, c: i64, a: i32, b: i32) -> i64
+    requires { ⌜ (natAbs sum ≤ 2 ^ 61) × (natAbs c ≤ 2 ^ 29) ⌝ }
+    ensures { λ r. ⌜ r ≡ sum +ℤ c *ℤ (a +ℤ b) ⌝ }
+{
+    sum + c * pair(a, b)
+}
 
 // c(0)·x0 + c(2)·x2 + .. + c(18)·x18: the samples at the coefficients that are not 0.
 pub(crate) fn weigh(
@@ -18,15 +38,10 @@ pub(crate) fn weigh(
 ) -> i64
     ensures { λ r. ⌜ Weighed x0 x2 x4 x6 x8 x9 x10 x12 x14 x16 x18 r ⌝ }
 {
-    let s0 = multiply_add(0, 313, x0);
-    let s2 = multiply_add(s0, -1338, x2);
-    let s4 = multiply_add(s2, 3593, x4);
-    let s6 = multiply_add(s4, -8718, x6);
-    let s8 = multiply_add(s6, 31158, x8);
-    let s9 = multiply_add(s8, 50000, x9);
-    let s10 = multiply_add(s9, 31158, x10);
-    let s12 = multiply_add(s10, -8718, x12);
-    let s14 = multiply_add(s12, 3593, x14);
-    let s16 = multiply_add(s14, -1338, x16);
-    multiply_add(s16, 313, x18)
+    let s0 = add_pair(0, 313, x0, x18);
+    let s2 = add_pair(s0, -1338, x2, x16);
+    let s4 = add_pair(s2, 3593, x4, x14);
+    let s6 = add_pair(s4, -8718, x6, x12);
+    let s8 = add_pair(s6, 31158, x8, x10);
+    multiply_add(s8, 50000, x9)
 }

@@ -1,0 +1,73 @@
+-- Two mirror samples added first: their sum, and its product added to a sum, fit 64 bits. Assumes nothing.
+use mathlib.Core.Path.{_≡_, refl, ap₂}
+use Prim.Native.Nat.{_*_, _≤_, _<_, _^_}
+use native.Mathlib.Nat.{mul-le-mul}
+use native.Mathlib.Omega.{arith}
+use lib.IntN.{ℤ, pos, negsuc, natAbs, _+ℤ_, _*ℤ_}
+use lib.Signed.{natAbs-le}
+use mir.Syntax.{w32, w64}
+use mir.Val.{SFits}
+use mir.Facts.{toZ-ofZ, sfits-widen}
+use Rattle.whole.proofs.Signed.{var, lit, neg, _⊕_, _⊗_, eq-by, about}
+use Rattle.whole.proofs.Magnitude.{abs-+ℤ, abs-*ℤ}
+use Rattle.whole.proofs.Rounded.{raw}
+use Rattle.ring.specs.Helpers.{eleven}
+
+fits-abs : (z : ℤ) → natAbs z < 2 ^ 63 → SFits w64 z
+fits-abs z h = record { sfits = omega (arith, about z) }
+
+-- ---- two places
+
+pub pair-size : {a b : ℤ} → SFits w32 a → SFits w32 b → natAbs (a +ℤ b) ≤ 2 ^ 32
+pair-size {a} {b} fa fb = omega (arith, abs-+ℤ a b, natAbs-le a (fa .sfits), natAbs-le b (fb .sfits))
+
+-- r and s are the places a and b, widened
+pub record Paired (a b r s : ℤ) : Type 0 where
+  pub fits : SFits w64 (raw w64 r +ℤ raw w64 s)
+  pub answer : raw w64 (raw w64 r +ℤ raw w64 s) ≡ a +ℤ b
+
+pub paired : {a b r s : ℤ} → SFits w32 a → SFits w32 b → r ≡ raw w32 a → s ≡ raw w32 b → Paired a b r s
+paired {a} {b} {r} {s} fa fb er es =
+    let sum : SFits w64 (a +ℤ b) = fits-abs (a +ℤ b) (omega (arith, pair-size fa fb)) in
+    let same : raw w64 r +ℤ raw w64 s ≡ a +ℤ b = ap₂ (λ (x y : ℤ). x +ℤ y) (wide fa er) (wide fb es) in
+    record { fits = rw same sum; answer = rw same (toZ-ofZ sum) }
+  where
+    wide : {x y : ℤ} → SFits w32 x → y ≡ raw w32 x → raw w64 y ≡ x
+    wide {x} {y} f e = rw (e, toZ-ofZ f, toZ-ofZ {w = w64} {z = x} (sfits-widen tt f)) refl
+
+-- ---- their product, added
+
+-- p is the sum x of a pair, as the machine hands it on
+pub record Adds (s c x p : ℤ) : Type 0 where
+  pub product-fits : SFits w64 (raw w64 c *ℤ raw w64 p)
+  pub sum-fits : SFits w64 (raw w64 s +ℤ raw w64 (raw w64 c *ℤ raw w64 p))
+  pub answer : raw w64 (raw w64 s +ℤ raw w64 (raw w64 c *ℤ raw w64 p)) ≡ s +ℤ c *ℤ x
+
+pub adds : {s c a b p : ℤ} → SFits w64 s → SFits w64 c → SFits w32 a → SFits w32 b → natAbs s ≤ 2 ^ 61 → natAbs c ≤ 2 ^ 29 →
+    p ≡ raw w32 a +ℤ raw w32 b → Adds s c (a +ℤ b) p
+adds {s} {c} {a} {b} {p} fs fc fa fb hs hc e =
+    let x : ℤ = a +ℤ b in
+    let fx : SFits w64 x = fits-abs x (omega (arith, pair-size fa fb)) in
+    let same : raw w64 p ≡ x = rw (e, toZ-ofZ fa, toZ-ofZ fb) (toZ-ofZ fx) in
+    let product : natAbs (c *ℤ x) ≤ 2 ^ 29 * 2 ^ 32 = rw (abs-*ℤ c x) (mul-le-mul hc (pair-size fa fb)) in
+    let fp : SFits w64 (c *ℤ x) = fits-abs (c *ℤ x) (omega arith) in
+    let ft : SFits w64 (s +ℤ c *ℤ x) = fits-abs (s +ℤ c *ℤ x) (omega (arith, abs-+ℤ s (c *ℤ x))) in
+    record {
+      product-fits = rw (same, toZ-ofZ fc) fp;
+      sum-fits = rw (same, toZ-ofZ fs, toZ-ofZ fc, toZ-ofZ fp) ft;
+      answer = rw (same, toZ-ofZ fs, toZ-ofZ fc, toZ-ofZ fp) (toZ-ofZ ft);
+    }
+
+-- ---- six products are the eleven
+
+-- c(i)·(x(i) + x(18 - i)) at i = 0, 2, 4, 6, 8, and c(9)·x(9)
+abbrev pub six : ℤ → ℤ → ℤ → ℤ → ℤ → ℤ → ℤ → ℤ → ℤ → ℤ → ℤ → ℤ
+six x0 x2 x4 x6 x8 x9 x10 x12 x14 x16 x18 =
+    pos 0 +ℤ pos 313 *ℤ (x0 +ℤ x18) +ℤ negsuc 1337 *ℤ (x2 +ℤ x16) +ℤ pos 3593 *ℤ (x4 +ℤ x14) +ℤ negsuc 8717 *ℤ (x6 +ℤ x12) +ℤ pos 31158 *ℤ (x8 +ℤ x10) +ℤ pos 50000 *ℤ x9
+
+pub six-is : (x0 x2 x4 x6 x8 x9 x10 x12 x14 x16 x18 : ℤ) → six x0 x2 x4 x6 x8 x9 x10 x12 x14 x16 x18 ≡ eleven x0 x2 x4 x6 x8 x9 x10 x12 x14 x16 x18
+six-is x0 x2 x4 x6 x8 x9 x10 x12 x14 x16 x18 =
+    eq-by
+    (lit 0 ⊕ lit 313 ⊗ (var x0 ⊕ var x18) ⊕ neg (lit 1338) ⊗ (var x2 ⊕ var x16) ⊕ lit 3593 ⊗ (var x4 ⊕ var x14) ⊕ neg (lit 8718) ⊗ (var x6 ⊕ var x12) ⊕ lit 31158 ⊗ (var x8 ⊕ var x10) ⊕ lit 50000 ⊗ var x9)
+    (lit 0 ⊕ lit 313 ⊗ var x0 ⊕ neg (lit 1338) ⊗ var x2 ⊕ lit 3593 ⊗ var x4 ⊕ neg (lit 8718) ⊗ var x6 ⊕ lit 31158 ⊗ var x8 ⊕ lit 50000 ⊗ var x9 ⊕ lit 31158 ⊗ var x10 ⊕ neg (lit 8718) ⊗ var x12 ⊕ lit 3593 ⊗ var x14 ⊕ neg (lit 1338) ⊗ var x16 ⊕ lit 313 ⊗ var x18)
+    (omega arith)
