@@ -1,35 +1,15 @@
-"""`model.py FOLDER`: the program FOLDER/block is traced at eight bands, each side twice round the rings, and modelled."""
+"""`model.py PROGRAM`: the program is traced at eight bands, each side twice round the rings, and modelled."""
 import collections
 import re
-import shutil
 import subprocess
 import sys
+from traced import disassembled, executed
 
 SIDES = {"oeq": r"oeq_block|\w+::", "plain": r"tree_block|step"}
 SAMPLES = 2304  # twice round the rings of eight bands
 PROCESSORS = ["skylake", "znver2"]
 MISS = 16  # cycles
-OBJDUMP = shutil.which("x86_64-linux-gnu-objdump") or "objdump"
-folder = sys.argv[1]
-program = folder + "/block"
-
-
-def disassembled():
-    """Each instruction and its function, by address."""
-    text, function, of, name = subprocess.run([OBJDUMP, "-d", "--no-show-raw-insn", program], capture_output=True, text=True, check=True).stdout, {}, {}, None
-    for line in text.splitlines():
-        if head := re.match(r"[0-9a-f]+ <(.*)>:", line):
-            name = head[1]
-        elif found := re.match(r"\s+([0-9a-f]+):\s+(.*)", line):
-            of[int(found[1], 16)], function[int(found[1], 16)] = found[2].split("#")[0].strip(), name
-    return of, function
-
-
-def traced(side):
-    """The addresses that were executed."""
-    log = folder + "/trace"
-    subprocess.run(["qemu-x86_64", "-singlestep", "-d", "nochain,exec", "-D", log, program, "8", "4096", "2", side], check=True)
-    return [int(found[1], 16) for line in open(log) if (found := re.search(r"\[[0-9a-f]+/([0-9a-f]+)/", line))]
+program = sys.argv[1]
 
 
 def own(trace, side):
@@ -89,9 +69,9 @@ def jumps(trace, starts):
     return seen / count, missed / count
 
 
-code, function = disassembled()
+code, function = disassembled(program)
 for side in SIDES:
-    trace = own(traced(side), side)
+    trace = own(executed(program, 8, 4096, 2, side), side)
     starts = samples(trace)
     seen, missed = jumps(trace, starts)
     print(f"{side}: {(starts[-1] - starts[0]) / (len(starts) - 1):.0f} instructions a sample, {seen:.0f} conditional jumps, {missed:.1f} missed")

@@ -138,8 +138,8 @@ int64_t oeq_prepare(int32_t bands, int32_t channels, int32_t *memory, size_t mem
  *   output   as long as input; not the same places
  *
  * Growth: a line value is at most 1.4024 times the largest of the line above it, and half a step: for ten bands below
- * 176,009,875 from prepared memory, far within 32 bits (in other memory it is limited to 32 bits). The sum of eleven
- * products has 64 bits, of which it fills 51 at most, and the gain sum of ten bands 50. Nothing is rounded but each line
+ * 176,009,875 from prepared memory, far within 32 bits (in other memory it is limited to 32 bits). A line's sum, of six
+ * products, has 64 bits, of which it fills 51 at most, and the gain sum of ten bands 50. Nothing is rounded but each line
  * value once, to the nearest with a tie away from zero, and the gain sum once; then the output is limited to the sample
  * range, and a loud sample never turns over. Scale nothing.
  *
