@@ -60,14 +60,14 @@ adds {s} {c} {a} {b} {p} fs fc fa fb hs hc e =
 
 -- ---- six products are the eleven
 
--- c(i)·(x(i) + x(18 - i)) at i = 0, 2, 4, 6, 8, and c(9)·x(9)
+-- c(9)·x(9), and c(i)·(x(i) + x(18 - i)) at i = 8, 6, 4, 2, 0
 abbrev pub six : ℤ → ℤ → ℤ → ℤ → ℤ → ℤ → ℤ → ℤ → ℤ → ℤ → ℤ → ℤ
 six x0 x2 x4 x6 x8 x9 x10 x12 x14 x16 x18 =
-    pos 0 +ℤ pos 313 *ℤ (x0 +ℤ x18) +ℤ negsuc 1337 *ℤ (x2 +ℤ x16) +ℤ pos 3593 *ℤ (x4 +ℤ x14) +ℤ negsuc 8717 *ℤ (x6 +ℤ x12) +ℤ pos 31158 *ℤ (x8 +ℤ x10) +ℤ pos 50000 *ℤ x9
+    pos 0 +ℤ pos 50000 *ℤ x9 +ℤ pos 31158 *ℤ (x8 +ℤ x10) +ℤ negsuc 8717 *ℤ (x6 +ℤ x12) +ℤ pos 3593 *ℤ (x4 +ℤ x14) +ℤ negsuc 1337 *ℤ (x2 +ℤ x16) +ℤ pos 313 *ℤ (x0 +ℤ x18)
 
 pub six-is : (x0 x2 x4 x6 x8 x9 x10 x12 x14 x16 x18 : ℤ) → six x0 x2 x4 x6 x8 x9 x10 x12 x14 x16 x18 ≡ eleven x0 x2 x4 x6 x8 x9 x10 x12 x14 x16 x18
 six-is x0 x2 x4 x6 x8 x9 x10 x12 x14 x16 x18 =
     eq-by
-    (lit 0 ⊕ lit 313 ⊗ (var x0 ⊕ var x18) ⊕ neg (lit 1338) ⊗ (var x2 ⊕ var x16) ⊕ lit 3593 ⊗ (var x4 ⊕ var x14) ⊕ neg (lit 8718) ⊗ (var x6 ⊕ var x12) ⊕ lit 31158 ⊗ (var x8 ⊕ var x10) ⊕ lit 50000 ⊗ var x9)
+    (lit 0 ⊕ lit 50000 ⊗ var x9 ⊕ lit 31158 ⊗ (var x8 ⊕ var x10) ⊕ neg (lit 8718) ⊗ (var x6 ⊕ var x12) ⊕ lit 3593 ⊗ (var x4 ⊕ var x14) ⊕ neg (lit 1338) ⊗ (var x2 ⊕ var x16) ⊕ lit 313 ⊗ (var x0 ⊕ var x18))
     (lit 0 ⊕ lit 313 ⊗ var x0 ⊕ neg (lit 1338) ⊗ var x2 ⊕ lit 3593 ⊗ var x4 ⊕ neg (lit 8718) ⊗ var x6 ⊕ lit 31158 ⊗ var x8 ⊕ lit 50000 ⊗ var x9 ⊕ lit 31158 ⊗ var x10 ⊕ neg (lit 8718) ⊗ var x12 ⊕ lit 3593 ⊗ var x14 ⊕ neg (lit 1338) ⊗ var x16 ⊕ lit 313 ⊗ var x18)
     (omega arith)

@@ -38,10 +38,10 @@ pub(crate) fn weigh(
 ) -> i64
     ensures { λ r. ⌜ Weighed x0 x2 x4 x6 x8 x9 x10 x12 x14 x16 x18 r ⌝ }
 {
-    let s0 = add_pair(0, 313, x0, x18);
-    let s2 = add_pair(s0, -1338, x2, x16);
-    let s4 = add_pair(s2, 3593, x4, x14);
-    let s6 = add_pair(s4, -8718, x6, x12);
-    let s8 = add_pair(s6, 31158, x8, x10);
-    multiply_add(s8, 50000, x9)
+    let s9 = multiply_add(0, 50000, x9);
+    let s8 = add_pair(s9, 31158, x8, x10);
+    let s6 = add_pair(s8, -8718, x6, x12);
+    let s4 = add_pair(s6, 3593, x4, x14);
+    let s2 = add_pair(s4, -1338, x2, x16);
+    add_pair(s2, 313, x0, x18)
 }
