@@ -1,4 +1,4 @@
--- Two mirror samples added first: their sum, and its product added to a sum, fit 64 bits. Assumes nothing.
+-- Two mirror samples added first: their sum and its product fit 64 bits, and six products are the eleven. Assumes nothing.
 use mathlib.Core.Path.{_≡_, refl, ap₂}
 use Prim.Native.Nat.{_*_, _≤_, _<_, _^_}
 use native.Mathlib.Nat.{mul-le-mul}
