@@ -1,5 +1,5 @@
 // The low-pass sum in six products (rule 5.13). The samples i and 18 - i back weigh the same and are added first; a zero coefficient has
-// no product. The centre comes first, then the pairs outward: a processor waits less so (docs/DECISIONS.md, 115).
+// no product. The centre comes first, then the pairs outward: fewer cycles by bench/model than inward.
 ghost use mathlib.Core.Path.{_≡_};
 ghost use Prim.Native.Nat.{_≤_, _^_};
 ghost use lib.IntN.{natAbs, _+ℤ_, _*ℤ_};
