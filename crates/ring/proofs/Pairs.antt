@@ -24,38 +24,36 @@ pair-size {a} {b} fa fb = omega (arith, abs-+ℤ a b, natAbs-le a (fa .sfits), n
 -- r and s are the places a and b, widened
 pub record Paired (a b r s : ℤ) : Type 0 where
   pub fits : SFits w64 (raw w64 r +ℤ raw w64 s)
-  pub answer : raw w64 (raw w64 r +ℤ raw w64 s) ≡ a +ℤ b
+  pub value : raw w64 (raw w64 r +ℤ raw w64 s) ≡ a +ℤ b
+  pub size : natAbs (raw w64 (raw w64 r +ℤ raw w64 s)) ≤ 2 ^ 32
 
 pub paired : {a b r s : ℤ} → SFits w32 a → SFits w32 b → r ≡ raw w32 a → s ≡ raw w32 b → Paired a b r s
 paired {a} {b} {r} {s} fa fb er es =
     let sum : SFits w64 (a +ℤ b) = fits-abs (a +ℤ b) (omega (arith, pair-size fa fb)) in
     let same : raw w64 r +ℤ raw w64 s ≡ a +ℤ b = ap₂ (λ (x y : ℤ). x +ℤ y) (wide fa er) (wide fb es) in
-    record { fits = rw same sum; answer = rw same (toZ-ofZ sum) }
+    record { fits = rw same sum; value = rw same (toZ-ofZ sum); size = rw (same, toZ-ofZ sum) (pair-size fa fb) }
   where
     wide : {x y : ℤ} → SFits w32 x → y ≡ raw w32 x → raw w64 y ≡ x
     wide {x} {y} f e = rw (e, toZ-ofZ f, toZ-ofZ {w = w64} {z = x} (sfits-widen tt f)) refl
 
 -- ---- their product, added
 
--- p is the sum x of a pair, as the machine hands it on
-pub record Adds (s c x p : ℤ) : Type 0 where
+-- p is the sum of a pair, as the machine hands it on
+pub record Adds (s c p : ℤ) : Type 0 where
   pub product-fits : SFits w64 (raw w64 c *ℤ raw w64 p)
   pub sum-fits : SFits w64 (raw w64 s +ℤ raw w64 (raw w64 c *ℤ raw w64 p))
-  pub answer : raw w64 (raw w64 s +ℤ raw w64 (raw w64 c *ℤ raw w64 p)) ≡ s +ℤ c *ℤ x
+  pub answer : raw w64 (raw w64 s +ℤ raw w64 (raw w64 c *ℤ raw w64 p)) ≡ s +ℤ c *ℤ p
 
-pub adds : {s c a b p : ℤ} → SFits w64 s → SFits w64 c → SFits w32 a → SFits w32 b → natAbs s ≤ 2 ^ 61 → natAbs c ≤ 2 ^ 29 →
-    p ≡ raw w32 a +ℤ raw w32 b → Adds s c (a +ℤ b) p
-adds {s} {c} {a} {b} {p} fs fc fa fb hs hc e =
-    let x : ℤ = a +ℤ b in
-    let fx : SFits w64 x = fits-abs x (omega (arith, pair-size fa fb)) in
-    let same : raw w64 p ≡ x = rw (e, toZ-ofZ fa, toZ-ofZ fb) (toZ-ofZ fx) in
-    let product : natAbs (c *ℤ x) ≤ 2 ^ 29 * 2 ^ 32 = rw (abs-*ℤ c x) (mul-le-mul hc (pair-size fa fb)) in
-    let fp : SFits w64 (c *ℤ x) = fits-abs (c *ℤ x) (omega arith) in
-    let ft : SFits w64 (s +ℤ c *ℤ x) = fits-abs (s +ℤ c *ℤ x) (omega (arith, abs-+ℤ s (c *ℤ x))) in
+pub adds : {s c p : ℤ} → SFits w64 s → SFits w64 c → natAbs s ≤ 2 ^ 61 → natAbs c ≤ 2 ^ 29 → natAbs p ≤ 2 ^ 32 → Adds s c p
+adds {s} {c} {p} fs fc hs hc hp =
+    let f : SFits w64 p = fits-abs p (omega arith) in
+    let product : natAbs (c *ℤ p) ≤ 2 ^ 29 * 2 ^ 32 = rw (abs-*ℤ c p) (mul-le-mul hc hp) in
+    let fp : SFits w64 (c *ℤ p) = fits-abs (c *ℤ p) (omega arith) in
+    let ft : SFits w64 (s +ℤ c *ℤ p) = fits-abs (s +ℤ c *ℤ p) (omega (arith, abs-+ℤ s (c *ℤ p))) in
     record {
-      product-fits = rw (same, toZ-ofZ fc) fp;
-      sum-fits = rw (same, toZ-ofZ fs, toZ-ofZ fc, toZ-ofZ fp) ft;
-      answer = rw (same, toZ-ofZ fs, toZ-ofZ fc, toZ-ofZ fp) (toZ-ofZ ft);
+      product-fits = rw (toZ-ofZ f, toZ-ofZ fc) fp;
+      sum-fits = rw (toZ-ofZ f, toZ-ofZ fs, toZ-ofZ fc, toZ-ofZ fp) ft;
+      answer = rw (toZ-ofZ f, toZ-ofZ fs, toZ-ofZ fc, toZ-ofZ fp) (toZ-ofZ ft);
     }
 
 -- ---- six products are the eleven

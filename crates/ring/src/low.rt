@@ -7,9 +7,9 @@ ghost use Rattle.ring.specs.Helpers.{Weighed};
 use whole::products::multiply_add;
 use whole::products::widen;
 
-// The sum of two places, whatever they hold: it takes 33 bits, and no bit is lost.
+// The sum of two places, whatever they hold: 33 bits, and none is lost (rule 5.12).
 fn pair(a: i32, b: i32) -> i64
-    ensures { λ r. ⌜ r ≡ a +ℤ b ⌝ }
+    ensures { λ r. ⌜ (r ≡ a +ℤ b) × (natAbs r ≤ 2 ^ 32) ⌝ }
 {
     widen(a) + widen(b)
 }

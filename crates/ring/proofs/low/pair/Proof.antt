@@ -8,4 +8,4 @@ all : (c : tie.After-widen2) → Paired (c .before .before .args .a) (c .before 
 all c = paired (c .before .before .fits .a) (c .before .before .fits .b) (c .before .widen .ensures) (c .widen2 .ensures)
 
 pub pair-spec : {M : Type 1} → statement M
-pair-spec = tie.close (tie.spec (λ c κs. search needs) (λ c κs. search needs) (λ c. all c .fits) (λ c. all c .answer))
+pair-spec = tie.close (tie.spec (λ c κs. search needs) (λ c κs. search needs) (λ c. all c .fits) (λ c. (all c .value, all c .size)))
