@@ -1,5 +1,5 @@
 -- Two mirror samples added first: their sum and its product fit 64 bits, and six products are the eleven. Assumes nothing.
-use mathlib.Core.Path.{_≡_, refl, ap₂}
+use mathlib.Core.Path.{_≡_}
 use Prim.Native.Nat.{_*_, _≤_, _<_, _^_}
 use native.Mathlib.Nat.{mul-le-mul}
 use native.Mathlib.Omega.{arith}
@@ -7,9 +7,10 @@ use lib.IntN.{ℤ, pos, negsuc, natAbs, _+ℤ_, _*ℤ_}
 use lib.Signed.{natAbs-le}
 use mir.Syntax.{w32, w64}
 use mir.Val.{SFits}
-use mir.Facts.{toZ-ofZ, sfits-widen}
+use mir.Facts.{toZ-ofZ}
 use Rattle.whole.proofs.Signed.{var, lit, neg, _⊕_, _⊗_, eq-by, about}
 use Rattle.whole.proofs.Magnitude.{abs-+ℤ, abs-*ℤ}
+use Rattle.whole.proofs.Product.{widens}
 use Rattle.whole.proofs.Rounded.{raw}
 use Rattle.ring.specs.Helpers.{eleven}
 
@@ -21,20 +22,19 @@ fits-abs z h = record { sfits = omega (arith, about z) }
 pub pair-size : {a b : ℤ} → SFits w32 a → SFits w32 b → natAbs (a +ℤ b) ≤ 2 ^ 32
 pair-size {a} {b} fa fb = omega (arith, abs-+ℤ a b, natAbs-le a (fa .sfits), natAbs-le b (fb .sfits))
 
--- r and s are the places a and b, widened
-pub record Paired (a b r s : ℤ) : Type 0 where
-  pub fits : SFits w64 (raw w64 r +ℤ raw w64 s)
-  pub value : raw w64 (raw w64 r +ℤ raw w64 s) ≡ a +ℤ b
-  pub size : natAbs (raw w64 (raw w64 r +ℤ raw w64 s)) ≤ 2 ^ 32
+pub record Paired (a b : ℤ) : Type 0 where
+  pub fits : SFits w64 (raw w64 (raw w32 a) +ℤ raw w64 (raw w32 b))
+  pub value : raw w64 (raw w64 (raw w32 a) +ℤ raw w64 (raw w32 b)) ≡ a +ℤ b
+  pub size : natAbs (raw w64 (raw w64 (raw w32 a) +ℤ raw w64 (raw w32 b))) ≤ 2 ^ 32
 
-pub paired : {a b r s : ℤ} → SFits w32 a → SFits w32 b → r ≡ raw w32 a → s ≡ raw w32 b → Paired a b r s
-paired {a} {b} {r} {s} fa fb er es =
+pub paired : {a b : ℤ} → SFits w32 a → SFits w32 b → Paired a b
+paired {a} {b} fa fb =
     let sum : SFits w64 (a +ℤ b) = fits-abs (a +ℤ b) (omega (arith, pair-size fa fb)) in
-    let same : raw w64 r +ℤ raw w64 s ≡ a +ℤ b = ap₂ (λ (x y : ℤ). x +ℤ y) (wide fa er) (wide fb es) in
-    record { fits = rw same sum; value = rw same (toZ-ofZ sum); size = rw (same, toZ-ofZ sum) (pair-size fa fb) }
-  where
-    wide : {x y : ℤ} → SFits w32 x → y ≡ raw w32 x → raw w64 y ≡ x
-    wide {x} {y} f e = rw (e, toZ-ofZ f, toZ-ofZ {w = w64} {z = x} (sfits-widen tt f)) refl
+    record {
+      fits = rw (widens fa .answer, widens fb .answer) sum;
+      value = rw (widens fa .answer, widens fb .answer) (toZ-ofZ sum);
+      size = rw (widens fa .answer, widens fb .answer, toZ-ofZ sum) (pair-size fa fb);
+    }
 
 -- ---- their product, added
 

@@ -5,13 +5,12 @@ ghost use Prim.Native.Nat.{_≤_, _^_};
 ghost use lib.IntN.{natAbs, _+ℤ_, _*ℤ_};
 ghost use Rattle.ring.specs.Helpers.{Weighed};
 use whole::products::multiply_add;
-use whole::products::widen;
 
 // The sum of two places, whatever they hold: 33 bits, and none is lost (rule 5.12).
 fn pair(a: i32, b: i32) -> i64
     ensures { λ r. ⌜ (r ≡ a +ℤ b) × (natAbs r ≤ 2 ^ 32) ⌝ }
 {
-    widen(a) + widen(b)
+    (a as i64) + (b as i64)
 }
 
 // sum + c·(a + b): two samples of one weight.
