@@ -1,8 +1,7 @@
 // One side's samples through its lines, row after row.
 ghost use Rattle.std.specs.Prelude.{◌≡◌, ◌≤◌, ◌<◌, ◌+◌, ◌-◌, ◌*◌, ◌%◌, length};
 ghost use Rattle.frames.specs.Frames.{side, side_of};
-ghost use Rattle.tree.specs.Prototype.{prototypeOf};
-ghost use Rattle.tree.specs.HalfBand.{HalfBand};
+ghost use Rattle.tree.specs.Prototype.{published};
 ghost use Rattle.lines.specs.Cascade.{run};
 ghost use Rattle.lines.specs.Rows.{rowPlaces, wrapped, rowed};
 ghost use Rattle.lines.specs.Helpers.{Region, RowRegion, RowsDone};
@@ -38,7 +37,6 @@ fn wrapped(size: usize, at: usize) -> usize
 
 // A row of n samples of side s: taken out of its frames and through the lines; the rows then show each line's aligned samples.
 fn side_row(
-    table: &[i32],
     lines: &mut [i32],
     size: usize,
     at: usize,
@@ -49,17 +47,16 @@ fn side_row(
     input: &[i32],
     rows: &mut [i32],
 )
-    requires { HalfBand (prototypeOf table.now) × RowRegion (prototypeOf table.now) bands size at 1 n lines.old rows.old × (s < channels) × (length input.now ≡ channels * n) × (channels ≤ 2) }
-    ensures { RowsDone (rowed (prototypeOf table.now) size (bands - 1) 1 at lines.old (side channels s n input.now)) n lines.new rows.new }
+    requires { RowRegion published bands size at 1 n lines.old rows.old × (s < channels) × (length input.now ≡ channels * n) × (channels ≤ 2) }
+    ensures { RowsDone (rowed published size (bands - 1) 1 at lines.old (side channels s n input.now)) n lines.new rows.new }
 {
     gather(input, channels, s, n, rows);
-    cascade(table, lines, size, at, 1, bands, n, rows);
+    cascade(lines, size, at, 1, bands, n, rows);
 }
 
 // Every sample of side s, from the position `from`, in the matrix lent, weighed with `gains` into the output; where there are other gains, each row is
 // weighed with them too, into the second output. Answers the position afterwards.
 pub fn each_row(
-    table: &[i32],
     lines: &mut [i32],
     size: usize,
     from: usize,
@@ -73,8 +70,8 @@ pub fn each_row(
     output: &mut [i32],
     second: &mut [i32],
 ) -> usize
-    requires { HalfBand (prototypeOf table.now) × Region (prototypeOf table.now) bands size 1 lines.old × (from < size) × Allowed bands gains.now × Second bands others.now input.now second.old × (s < channels) × (channels ≤ 2) × (length output.old ≡ length input.now) × (length input.now % channels ≡ 0) × (rowPlaces * bands ≤ length rows.old) }
-    ensures { BothDone channels s (run (prototypeOf table.now) size (bands - 1) from lines.old (side_of channels s input.now)) gains.now others.now lines.new result output.old output.new second.old second.new }
+    requires { Region published bands size 1 lines.old × (from < size) × Allowed bands gains.now × Second bands others.now input.now second.old × (s < channels) × (channels ≤ 2) × (length output.old ≡ length input.now) × (length input.now % channels ≡ 0) × (rowPlaces * bands ≤ length rows.old) }
+    ensures { BothDone channels s (run published size (bands - 1) from lines.old (side_of channels s input.now)) gains.now others.now lines.new result output.old output.new second.old second.new }
 {
     let weights = differences(gains);
     let twice = 0 < others.len();
@@ -86,7 +83,7 @@ pub fn each_row(
         let first = channels * i;
         let end = channels * (i + n);
         let samples = &input[first..end];
-        side_row(table, lines, size, at, bands, channels, s, n, samples, rows);
+        side_row(lines, size, at, bands, channels, s, n, samples, rows);
         let part = &mut output[first..end];
         weigh_rows(rows, bands, gains.len(), 0, &weights, channels, s, n, part);
         if twice {

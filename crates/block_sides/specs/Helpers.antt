@@ -1,7 +1,7 @@
 -- Bookkeeping: what the functions ask and answer (rule 13.10). No promise of a public call speaks of it.
 use Rattle.std.specs.Prelude.{◌≡◌, List, ℕ, ◌-◌, ◌*◌, ◌%◌, ◌≤◌, length, ℤ}
 use Rattle.frames.specs.Frames.{woven, behind, places_of}
-use Rattle.tree.specs.Prototype.{Prototype}
+use Rattle.tree.specs.Prototype.{published}
 use Rattle.tree.specs.Signal.{gainOf}
 use Rattle.lines.specs.Cascade.{Ran}
 use Rattle.lines.specs.Helpers.{Region}
@@ -9,11 +9,11 @@ use Rattle.weighing.specs.Weighing.{outputs}
 use Rattle.block_rows.specs.Helpers.{Asked}
 
 -- what the samples of all sides ask: one or two channels, just the lines of each, whole frames
-pub record Sides (p : Prototype) (bands size channels : ℕ) (lines input output : List ℤ) : Type 0 where
+pub record Sides (bands size channels : ℕ) (lines input output : List ℤ) : Type 0 where
   pub some : 1 ≤ channels
   pub few : channels ≤ 2
   pub whole : length lines ≡ channels * ((bands - 1) * size)
-  pub region : Region p bands size 1 (places_of ((bands - 1) * size) 0 lines)
+  pub region : Region published bands size 1 (places_of ((bands - 1) * size) 0 lines)
   pub alike : length output ≡ length input
   pub frames : length input % channels ≡ 0
 

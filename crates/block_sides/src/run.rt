@@ -1,8 +1,7 @@
 // A block's samples through the lines, side after side.
 ghost use Rattle.std.specs.Prelude.{◌≤◌, ◌<◌, ◌-◌, ◌*◌, ◌/◌, length};
 ghost use Rattle.frames.specs.Frames.{side_of, places_of};
-ghost use Rattle.tree.specs.Prototype.{prototypeOf};
-ghost use Rattle.tree.specs.HalfBand.{HalfBand};
+ghost use Rattle.tree.specs.Prototype.{published};
 ghost use Rattle.lines.specs.Cascade.{run};
 ghost use Rattle.lines.specs.Rows.{rowPlaces};
 ghost use Rattle.weighing.specs.Helpers.{Allowed};
@@ -18,7 +17,6 @@ const FOUR_ROWS: usize = 128;
 
 // Every sample of the left side, and then of the right one if there is one.
 fn each_side(
-    table: &[i32],
     lines: &mut [i32],
     size: usize,
     from: usize,
@@ -31,12 +29,11 @@ fn each_side(
     output: &mut [i32],
     second: &mut [i32],
 ) -> usize
-    requires { HalfBand (prototypeOf table.now) × Sides (prototypeOf table.now) bands size channels lines.old input.now output.old × (from < size) × Allowed bands gains.now × Second bands others.now input.now second.old × (rowPlaces * bands ≤ length rows.old) }
-    ensures { BothSidesDone channels (length input.now / channels) (λ s. run (prototypeOf table.now) size (bands - 1) from (places_of ((bands - 1) * size) s lines.old) (side_of channels s input.now)) gains.now others.now lines.new result output.new second.new }
+    requires { Sides bands size channels lines.old input.now output.old × (from < size) × Allowed bands gains.now × Second bands others.now input.now second.old × (rowPlaces * bands ≤ length rows.old) }
+    ensures { BothSidesDone channels (length input.now / channels) (λ s. run published size (bands - 1) from (places_of ((bands - 1) * size) s lines.old) (side_of channels s input.now)) gains.now others.now lines.new result output.new second.new }
 {
     let places = (bands - 1) * size;
     let at = each_row(
-        table,
         &mut lines[..places],
         size,
         from,
@@ -52,7 +49,6 @@ fn each_side(
     );
     if channels == 2 {
         each_row(
-            table,
             &mut lines[places..],
             size,
             from,
@@ -72,7 +68,6 @@ fn each_side(
 
 // Every sample of the block, from the position `from`; answers the position afterwards.
 pub fn run(
-    table: &[i32],
     lines: &mut [i32],
     size: usize,
     from: usize,
@@ -84,18 +79,17 @@ pub fn run(
     output: &mut [i32],
     second: &mut [i32],
 ) -> usize
-    requires { HalfBand (prototypeOf table.now) × Sides (prototypeOf table.now) bands size channels lines.old input.now output.old × (from < size) × Allowed bands gains.now × Second bands others.now input.now second.old }
-    ensures { BothSidesDone channels (length input.now / channels) (λ s. run (prototypeOf table.now) size (bands - 1) from (places_of ((bands - 1) * size) s lines.old) (side_of channels s input.now)) gains.now others.now lines.new result output.new second.new }
+    requires { Sides bands size channels lines.old input.now output.old × (from < size) × Allowed bands gains.now × Second bands others.now input.now second.old }
+    ensures { BothSidesDone channels (length input.now / channels) (λ s. run published size (bands - 1) from (places_of ((bands - 1) * size) s lines.old) (side_of channels s input.now)) gains.now others.now lines.new result output.new second.new }
 {
     if bands <= 4 {
         let mut rows = [0i32; FOUR_ROWS];
         return each_side(
-            table, lines, size, from, bands, channels, gains, others, input, &mut rows, output,
-            second,
+            lines, size, from, bands, channels, gains, others, input, &mut rows, output, second,
         );
     }
     let mut rows = [0i32; TEN_ROWS];
     each_side(
-        table, lines, size, from, bands, channels, gains, others, input, &mut rows, output, second,
+        lines, size, from, bands, channels, gains, others, input, &mut rows, output, second,
     )
 }

@@ -11,25 +11,19 @@ abbrev pub lengthAnswer : length.Length → Answer ℕ
 lengthAnswer (length.TheVariants.Places n) = accepted n
 lengthAnswer length.TheVariants.BandCount = refused 1 0
 lengthAnswer length.TheVariants.ChannelCount = refused 9 0
-lengthAnswer length.TheVariants.TableLength = refused 13 0
 
 -- rule 6.8, prepare
 abbrev pub preparedAnswer : prepared.Prepared → Answer ℕ
 preparedAnswer (prepared.TheVariants.Delay t) = accepted t
 preparedAnswer prepared.TheVariants.BandCount = refused 1 0
 preparedAnswer prepared.TheVariants.ChannelCount = refused 9 0
-preparedAnswer prepared.TheVariants.TableLength = refused 13 0
-preparedAnswer prepared.TheVariants.TableValues = refused 14 0
 preparedAnswer prepared.TheVariants.MemoryLength = refused 2 0
 
--- rule 6.8, block: the number of what is wrong with a lent memory or its table
+-- rule 6.8, block: the number of what is wrong with a lent memory
 abbrev pub faultNumber : fault.Fault → ℕ
 faultNumber fault.TheVariants.CountWrong = 31
 faultNumber fault.TheVariants.LengthWrong = 32
 faultNumber fault.TheVariants.PositionOutside = 33
-faultNumber fault.TheVariants.TableLength = 13
-faultNumber fault.TheVariants.TableValues = 14
-faultNumber fault.TheVariants.OtherTable = 15
 
 -- rule 6.8, block: 8 alone has a place, that of the sample
 abbrev pub blockAnswer : blocked.Blocked → Answer ℕ

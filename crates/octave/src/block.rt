@@ -26,21 +26,19 @@ pub enum Blocked {
 // The samples through the lines, weighed once. Everything has been judged.
 fn equalise(
     memory: &mut [i32],
-    table: &[i32],
     gains: &[i32],
     input: &[i32],
     output: &mut [i32],
     bands: usize,
     channels: usize,
 )
-    requires { Judged bands channels memory.old table.now gains.now input.now output.old }
-    ensures { (memory.new, output.new) ≡ equalised memory.old table.now gains.now input.now }
+    requires { Judged bands channels memory.old gains.now input.now output.old }
+    ensures { (memory.new, output.new) ≡ equalised memory.old gains.now input.now }
 {
     let no_gains = [0i32; 0];
     let mut nowhere = [0i32; 0];
     pass(
         memory,
-        table,
         gains,
         &no_gains,
         input,
@@ -54,15 +52,14 @@ fn equalise(
 // The call on an accepted memory of `bands` bands and `channels` channels. All is judged before anything is written.
 fn block_of(
     memory: &mut [i32],
-    table: &[i32],
     gains: &[i32],
     input: &[i32],
     output: &mut [i32],
     bands: usize,
     channels: usize,
 ) -> Blocked
-    requires { KeptCounts bands channels memory.old table.now }
-    ensures { Done (block_of memory.old table.now gains.now input.now output.old) result (memory.new, output.new) }
+    requires { KeptCounts bands channels memory.old }
+    ensures { Done (block_of memory.old gains.now input.now output.old) result (memory.new, output.new) }
 {
     if gains.len() != bands {
         return Blocked::GainCount;
@@ -84,24 +81,16 @@ fn block_of(
     if bad < input.len() {
         return Blocked::Sample(bad);
     }
-    equalise(memory, table, gains, input, output, bands, channels);
+    equalise(memory, gains, input, output, bands, channels);
     Blocked::Written(frames)
 }
 
-// Equalises a block of frames with the table that the memory was prepared for: output frame i answers input frame i.
-pub fn block(
-    memory: &mut [i32],
-    table: &[i32],
-    gains: &[i32],
-    input: &[i32],
-    output: &mut [i32],
-) -> Blocked
-    ensures { Done (block_of memory.old table.now gains.now input.now output.old) result (memory.new, output.new) }
+// Equalises a block of frames: output frame i answers input frame i.
+pub fn block(memory: &mut [i32], gains: &[i32], input: &[i32], output: &mut [i32]) -> Blocked
+    ensures { Done (block_of memory.old gains.now input.now output.old) result (memory.new, output.new) }
 {
-    match judge(memory, table) {
-        Kept::Holds(bands, channels) => block_of(
-            memory, table, gains, input, output, bands, channels,
-        ),
+    match judge(memory) {
+        Kept::Holds(bands, channels) => block_of(memory, gains, input, output, bands, channels),
         Kept::Wrong(fault) => Blocked::Memory(fault),
     }
 }

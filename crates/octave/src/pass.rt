@@ -8,7 +8,6 @@ use block_sides::run::run;
 // other gains, a second one under these.
 pub fn pass(
     memory: &mut [i32],
-    table: &[i32],
     gains: &[i32],
     others: &[i32],
     input: &[i32],
@@ -17,13 +16,12 @@ pub fn pass(
     bands: usize,
     channels: usize,
 )
-    requires { Judged bands channels memory.old table.now gains.now input.now output.old × JudgedAgain bands others.now input.now second.old }
-    ensures { Passed memory.old table.now gains.now others.now input.now memory.new output.new second.new }
+    requires { Judged bands channels memory.old gains.now input.now output.old × JudgedAgain bands others.now input.now second.old }
+    ensures { Passed memory.old gains.now others.now input.now memory.new output.new second.new }
 {
-    let size = line_length(bands, table.len());
+    let size = line_length(bands);
     let from = memory[POSITION] as usize;
     let at = run(
-        table,
         &mut memory[HEAD..],
         size,
         from,

@@ -15,23 +15,16 @@ pub record Within (p : Prototype) (line : List ℤ) (size at L : ℕ) : Type 0 w
   pub reach : 2 * (p.centre * L) ≤ size
   pub some : 1 ≤ L
   pub held : size ≤ length line
-  pub small : size ≤ 13824
+  pub small : size ≤ 4608
 
--- ---- the low-pass sum of nineteen entries
+-- ---- the low-pass sum over eleven samples
 
--- c(9)·x(9), and c(i)·(x(i) + x(18 - i)) at i = 8, 6, 4, 2, 0
-abbrev pub six : (c : ℕ → ℤ) → ℤ → ℤ → ℤ → ℤ → ℤ → ℤ → ℤ → ℤ → ℤ → ℤ → ℤ → ℤ
-six c x0 x2 x4 x6 x8 x9 x10 x12 x14 x16 x18 =
-    c 9 *ℤ x9 +ℤ c 8 *ℤ (x8 +ℤ x10) +ℤ c 6 *ℤ (x6 +ℤ x12) +ℤ c 4 *ℤ (x4 +ℤ x14) +ℤ c 2 *ℤ (x2 +ℤ x16) +ℤ c 0 *ℤ (x0 +ℤ x18)
+-- c(i)·x(i) at i = 0, 2, 4, 6, 8, 9, 10, 12, 14, 16, 18; the other coefficients are 0
+abbrev pub eleven : ℤ → ℤ → ℤ → ℤ → ℤ → ℤ → ℤ → ℤ → ℤ → ℤ → ℤ → ℤ
+eleven x0 x2 x4 x6 x8 x9 x10 x12 x14 x16 x18 =
+    pos 0 +ℤ pos 313 *ℤ x0 +ℤ negsuc 1337 *ℤ x2 +ℤ pos 3593 *ℤ x4 +ℤ negsuc 8717 *ℤ x6 +ℤ pos 31158 *ℤ x8 +ℤ pos 50000 *ℤ x9 +ℤ pos 31158 *ℤ x10 +ℤ negsuc 8717 *ℤ x12 +ℤ pos 3593 *ℤ x14 +ℤ negsuc 1337 *ℤ x16 +ℤ pos 313 *ℤ x18
 
 -- .. far within 64 bits (rule 5.12)
-pub record Weighed (c : ℕ → ℤ) (x0 x2 x4 x6 x8 x9 x10 x12 x14 x16 x18 r : ℤ) : Type 0 where
-  pub value : r ≡ six c x0 x2 x4 x6 x8 x9 x10 x12 x14 x16 x18
-  pub size : nat_abs r ≤ 2 ^ 55
-
--- ---- the low-pass sum of any table
-
--- what the products of the centre and of the first j pairs give, far within 64 bits
-pub record SumTo (c f : ℕ → ℤ) (D j : ℕ) (r : ℤ) : Type 0 where
-  pub value : r ≡ up_to c f D j
-  pub size : nat_abs r ≤ suc j * 2 ^ 50
+pub record Weighed (x0 x2 x4 x6 x8 x9 x10 x12 x14 x16 x18 r : ℤ) : Type 0 where
+  pub value : r ≡ eleven x0 x2 x4 x6 x8 x9 x10 x12 x14 x16 x18
+  pub size : nat_abs r ≤ 2 ^ 51

@@ -5,7 +5,11 @@ use Prim.Native.Nat.{ℕ, zero, suc, ◌+◌, ◌-◌, ◌≤◌, ◌<◌}
 use native.Mathlib.Omega.{arith}
 use lib.Dec.{T, eqb}
 use borrow.Author.Tests.{eqb-true, eqb-false}
-use Rattle.tree.specs.Table.{every}
+
+-- the test f holds of 0, 1, .., n - 1
+unfoldable pub every : ℕ → (ℕ → Bool) → Bool
+every zero f = true
+every (suc n) f = every n f && f n
 
 both : (a b : Bool) → T (a && b) → T a × T b
 both true b t = (tt, t)

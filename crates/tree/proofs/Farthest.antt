@@ -15,8 +15,7 @@ use Rattle.tree.specs.Signal.{Signal}
 use Rattle.tree.specs.Gains.{IsGain, AllowedGains}
 use Rattle.tree.specs.Tree.{output}
 use Rattle.tree.specs.Exact.{farthest, commonScale, exactOutput, allowanceAt, allowance, slack, together}
-use Rattle.tree.specs.Table.{every}
-use Rattle.tree.proofs.EveryNumber.{for-each-count}
+use Rattle.tree.proofs.EveryNumber.{every, for-each-count}
 use Rattle.tree.proofs.Distance.{distance}
 
 -- ---- any prototype

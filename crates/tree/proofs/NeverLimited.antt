@@ -19,8 +19,7 @@ use Rattle.tree.specs.Prototype.{Prototype, scale, magnitudes, published}
 use Rattle.tree.specs.Signal.{Signal}
 use Rattle.tree.specs.Tree.{weighted, lowPass, level}
 use Rattle.tree.proofs.Table.{magnitudes-add-up}
-use Rattle.tree.specs.Table.{every}
-use Rattle.tree.proofs.EveryNumber.{every-at}
+use Rattle.tree.proofs.EveryNumber.{every, every-at}
 use Rattle.tree.proofs.Weighted.{weighted-abs}
 
 -- |level j| ≤ reach A j: a low-pass of a signal within X is within A·X/100,000, rounded

@@ -7,13 +7,9 @@ use Rattle.tree.specs.Prototype.{Prototype, scale, magnitudes}
 use Rattle.tree.specs.Signal.{Signal}
 use Rattle.tree.specs.Tree.{weighted, gainSum}
 
--- rule 11.6, for the published table
+-- rule 11.6, for the table in use
 abbrev pub farthest : ℕ
 farthest = 302
-
--- rule 11.6, for any table that is served
-abbrev pub farthestServed : ℕ
-farthestServed = 414
 
 -- rule 4.3: P = 100,000^(M-1)
 abbrev pub commonScale : ℕ → ℕ

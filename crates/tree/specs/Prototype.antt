@@ -1,5 +1,5 @@
--- The prototype (rule 2.6): a parameter of the whole tree. A caller lends it as a table.
-use Rattle.std.specs.Prelude.{List, [], ◌∷◌, ℕ, ◌/◌, length, get_or, ℤ, pos, negsuc, nat_abs}
+-- The prototype (rule 2.6): a parameter of the whole tree. One instance is in use.
+use Rattle.std.specs.Prelude.{List, [], ◌∷◌, ℕ, length, get_or, ℤ, pos, negsuc, nat_abs}
 use Rattle.whole.specs.Sum.{sumℕ}
 
 -- rule 2.6: the coefficients c0, c1, .., and D, the delay of the low-pass
@@ -23,16 +23,12 @@ taps p = length p.coefficients
 abbrev pub magnitudes : Prototype → ℕ
 magnitudes p = sumℕ (taps p) (λ i. nat_abs (coefficient p i))
 
--- rule 2.7: the prototype of a lent table: its entries, D in the middle
-abbrev pub prototypeOf : List ℤ → Prototype
-prototypeOf table = record { coefficients = table; centre = length table / 2 }
-
--- rule 2.2: the published table
-abbrev pub publishedTable : List ℤ
-publishedTable =
-    pos 313 ∷ pos 0 ∷ negsuc 1337 ∷ pos 0 ∷ pos 3593 ∷ pos 0 ∷ negsuc 8717 ∷ pos 0 ∷ pos 31158 ∷ pos 50000 ∷
-    pos 31158 ∷ pos 0 ∷ negsuc 8717 ∷ pos 0 ∷ pos 3593 ∷ pos 0 ∷ negsuc 1337 ∷ pos 0 ∷ pos 313 ∷ []
-
--- rules 2.2, 2.5: its prototype, D = 9
+-- rules 2.2, 2.5: the table in use, D = 9
 abbrev pub published : Prototype
-published = prototypeOf publishedTable
+published =
+    record {
+      coefficients =
+          pos 313 ∷ pos 0 ∷ negsuc 1337 ∷ pos 0 ∷ pos 3593 ∷ pos 0 ∷ negsuc 8717 ∷ pos 0 ∷ pos 31158 ∷ pos 50000 ∷
+          pos 31158 ∷ pos 0 ∷ negsuc 8717 ∷ pos 0 ∷ pos 3593 ∷ pos 0 ∷ negsuc 1337 ∷ pos 0 ∷ pos 313 ∷ [];
+      centre = 9;
+    }

@@ -1,7 +1,11 @@
 -- The tables that are served: rules 2.7 to 2.9.
-use Rattle.std.specs.Prelude.{◌≡◌, Bool, true, cond, ◌&&◌, ◌||◌, List, ℕ, zero, suc, ◌+◌, ◌-◌, ◌%◌, eqb, leb, length, ℤ, pos}
+use Rattle.std.specs.Prelude.{◌≡◌, Bool, true, cond, ◌&&◌, ◌||◌, List, ℕ, zero, suc, ◌+◌, ◌-◌, ◌/◌, ◌%◌, eqb, leb, length, ℤ, pos}
 use Rattle.answers.specs.Range.{within}
-use Rattle.tree.specs.Prototype.{Prototype, coefficient, taps, magnitudes, prototypeOf}
+use Rattle.tree.specs.Prototype.{Prototype, coefficient, taps, magnitudes}
+
+-- rule 2.7: the prototype of a lent table: its entries, D in the middle
+abbrev pub prototypeOf : List ℤ → Prototype
+prototypeOf table = record { coefficients = table; centre = length table / 2 }
 
 -- rule 2.7: 19, 27 or 55 entries
 unfoldable pub lengthServed : ℕ → Bool
