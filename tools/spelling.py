@@ -134,7 +134,7 @@ def main():
         here = {a: b for a, b in table.items() if a not in foreign(text) and a not in made(p, text)}
         tokens = set(re.findall(TOKEN, text))
         for a, b in here.items():
-            if p.endswith(".antt") and "/Proof.antt" not in p and a in tokens and b in tokens and b not in OTHERWISE.values():
+            if p.endswith(".antt") and "/Proof.antt" not in p and a in tokens and b in tokens and b not in OTHERWISE:
                 print("stands already:", p, a, b)
                 bad += 1
         files.append((p, turn(text, here)))

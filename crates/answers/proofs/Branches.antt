@@ -10,29 +10,29 @@ use mir.Syntax.{w32}
 use mir.Val.{SFits, to_z, of_z}
 use mir.Facts.{to_z-of_z}
 use Rattle.answers.specs.Range.{within}
-use Rattle.answers.proofs.Laws.{refuses-here, goes_on, accepts}
+use Rattle.answers.proofs.Laws.{refuses_here, goes_on, accepts}
 
 -- ---- a call's answer, and its negation
 
 pub told : (test r u : Bool) → r ≡ test → r ≡ u → test ≡ u
 told test r u e d = sym e ∙ d
 
-pub told-no : (test r : Bool) → r ≡ test → not r ≡ true → test ≡ false
-told-no test r e d = sym e ∙ not-true r d
+pub told_no : (test r : Bool) → r ≡ test → not r ≡ true → test ≡ false
+told_no test r e d = sym e ∙ not-true r d
 
-pub told-yes : (test r : Bool) → r ≡ test → not r ≡ false → test ≡ true
-told-yes test r e d = sym e ∙ not-false r d
+pub told_yes : (test r : Bool) → r ≡ test → not r ≡ false → test ≡ true
+told_yes test r e d = sym e ∙ not-false r d
 
 -- ---- `within` at a signed number, which the machine hands on as its bits
 
-pub within-is : (lo hi : ℤ) {z : ℤ} {r u : Bool} → SFits w32 z → r ≡ within lo hi (to_z w32 (of_z w32 z)) → r ≡ u → within lo hi z ≡ u
-within-is lo hi f e d = ap (within lo hi) (sym (to_z-of_z f)) ∙ sym e ∙ d
+pub within_is : (lo hi : ℤ) {z : ℤ} {r u : Bool} → SFits w32 z → r ≡ within lo hi (to_z w32 (of_z w32 z)) → r ≡ u → within lo hi z ≡ u
+within_is lo hi f e d = ap (within lo hi) (sym (to_z-of_z f)) ∙ sym e ∙ d
 
-pub within-no : (lo hi z : ℤ) (r : Bool) → r ≡ within lo hi (to_z w32 (of_z w32 z)) → SFits w32 z → not r ≡ true → within lo hi z ≡ false
-within-no lo hi z r e f d = within-is lo hi f e (not-true r d)
+pub within_no : (lo hi z : ℤ) (r : Bool) → r ≡ within lo hi (to_z w32 (of_z w32 z)) → SFits w32 z → not r ≡ true → within lo hi z ≡ false
+within_no lo hi z r e f d = within_is lo hi f e (not-true r d)
 
-pub within-yes : (lo hi z : ℤ) (r : Bool) → r ≡ within lo hi (to_z w32 (of_z w32 z)) → SFits w32 z → not r ≡ false → within lo hi z ≡ true
-within-yes lo hi z r e f d = within-is lo hi f e (not-false r d)
+pub within_yes : (lo hi z : ℤ) (r : Bool) → r ≡ within lo hi (to_z w32 (of_z w32 z)) → SFits w32 z → not r ≡ false → within lo hi z ≡ true
+within_yes lo hi z r e f d = within_is lo hi f e (not-false r d)
 
 -- ---- a place that was looked for, among n
 
@@ -52,6 +52,6 @@ other a b k e n = ne_eqb a b (λ q. n (q ∙ sym e))
 
 -- ---- all of them, for search: a test from the branch that was taken
 
-pub ruleset branches = (eq-eqb, ne_eqb, le-leb, lt-leb, lt-ltb, le-ltb, told, told-no, told-yes, within-no, within-yes, found, found_none, same, other)
+pub ruleset branches = (eq-eqb, ne_eqb, le-leb, lt-leb, lt-ltb, le-ltb, told, told_no, told_yes, within_no, within_yes, found, found_none, same, other)
 
-pub ruleset judging = (refuses-here, goes_on, accepts, branches)
+pub ruleset judging = (refuses_here, goes_on, accepts, branches)

@@ -11,9 +11,9 @@ abbrev pub check : {R : Type 0} → Bool → R → Check R
 check test case = record { holds = test; otherwise = case }
 
 -- rule 6.6: no check fails
-unfoldable pub allHold : {R : Type 0} → List (Check R) → Bool
-allHold [] = true
-allHold (c ∷ cs) = c.holds && allHold cs
+unfoldable pub all_hold : {R : Type 0} → List (Check R) → Bool
+all_hold [] = true
+all_hold (c ∷ cs) = c.holds && all_hold cs
 
 -- rule 6.3, for a call that changes no place: the case of the first check that fails, the result if none fails
 unfoldable pub choose : {R : Type 0} → List (Check R) → (result : R) → R
@@ -32,5 +32,5 @@ decide (c ∷ cs) before result after = cond c.holds (decide cs before result af
 
 -- rule 6.10, a call's promise: its answer and its lent places are those
 pub record Done {R L : Type 0} (o : Outcome R L) (result : R) (lent : L) : Type 0 where
-  pub result-is : result ≡ o.result
+  pub result_is : result ≡ o.result
   pub lent_is : lent ≡ o.lent

@@ -2,9 +2,9 @@
 use Rattle.std.specs.Prelude.{◌≡◌, Bool, true, false, cond, List, [], ◌∷◌, ℕ, suc, ◌<◌, leb, length, get_or}
 
 -- rule 6.2: the place of the first element that fails, counted from 0; the length where none does
-unfoldable pub firstFailing : {A : Type 0} → (A → Bool) → List A → ℕ
-firstFailing test [] = 0
-firstFailing test (x ∷ xs) = cond (test x) (suc (firstFailing test xs)) 0
+unfoldable pub first_failing : {A : Type 0} → (A → Bool) → List A → ℕ
+first_failing test [] = 0
+first_failing test (x ∷ xs) = cond (test x) (suc (first_failing test xs)) 0
 
 -- rule 6.2: at place i an element fails, and before it none (`other` stands for what is past the end)
 pub record FirstFails {A : Type 0} (test : A → Bool) (other : A) (s : List A) (i : ℕ) : Type 0 where
@@ -13,5 +13,5 @@ pub record FirstFails {A : Type 0} (test : A → Bool) (other : A) (s : List A) 
   pub none_before : (k : ℕ) → k < i → test (get_or s k other) ≡ true
 
 -- rule 6.2: no element fails
-abbrev pub allPass : {A : Type 0} → (A → Bool) → List A → Bool
-allPass test s = leb (length s) (firstFailing test s)
+abbrev pub all_pass : {A : Type 0} → (A → Bool) → List A → Bool
+all_pass test s = leb (length s) (first_failing test s)

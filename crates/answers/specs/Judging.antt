@@ -19,6 +19,6 @@ carried F [] = []
 carried F (c ∷ cs) = check c.holds (F c.otherwise) ∷ carried F cs
 
 -- every case of the list is a refusal: it has a number
-unfoldable pub allRefuse : {R A : Type 0} → (R → Answer A) → List (Check R) → Bool
-allRefuse answer_of [] = true
-allRefuse answer_of (c ∷ cs) = ltb 0 (number_in (answer_of c.otherwise)) && allRefuse answer_of cs
+unfoldable pub all_refuse : {R A : Type 0} → (R → Answer A) → List (Check R) → Bool
+all_refuse answer_of [] = true
+all_refuse answer_of (c ∷ cs) = ltb 0 (number_in (answer_of c.otherwise)) && all_refuse answer_of cs

@@ -9,61 +9,61 @@ use lib.Ieee.{Float}
 use lib.Signed.{mag}
 use types.Run.{OneOf}
 use denote.Enum.Declared.{tag_of}
-use Rattle.answers.specs.Unit.{largestGain}
+use Rattle.answers.specs.Unit.{largest_gain}
 use Rattle.gain.specs.Decibels.{Half}
-use Rattle.gain.specs.Promise.{commandGain}
+use Rattle.gain.specs.Promise.{command_gain}
 use Rattle.gain.specs.Table.{entry}
 use Rattle.gain.specs.declared.Command.TheVariants.{Decibels}
 use Rattle.gain.specs.declared.Gained.{Gained}
 use Rattle.gain.specs.declared.Gained.TheVariants as gained
 use Rattle.gain.specs.contracts.Gained as declared
-use Rattle.gain.proofs.Every.{place-range}
-use Rattle.gain.proofs.Halves.{accepted-half}
-use Rattle.gain.proofs.Table.{entry-small}
+use Rattle.gain.proofs.Every.{place_range}
+use Rattle.gain.proofs.Halves.{accepted_half}
+use Rattle.gain.proofs.Table.{entry_small}
 use Rattle.arguments.specs.declared.half.Place.{Place}
 use Rattle.arguments.specs.declared.half.Place.TheVariants as place
 use Rattle.arguments.specs.declared.half.Argument.TheVariants.{Gain, Refused}
-use Rattle.arguments.specs.Argument.{placeOf, gainFor, argumentOf}
+use Rattle.arguments.specs.Argument.{place_of, gain_for, argument_of}
 use Rattle.arguments.proofs.ArgumentText.{Inside, place_inside}
 
 module _ (s : List ℕ) where
-  pub no-argument : place.Not ≡ placeOf s → Refused ≡ argumentOf s
-  unfolding argumentOf
-  no-argument e = ap gainFor e
+  pub no_argument : place.Not ≡ place_of s → Refused ≡ argument_of s
+  unfolding argument_of
+  no_argument e = ap gain_for e
 
-  module _ (i : ℕ) (e : place.At i ≡ placeOf s) where
+  module _ (i : ℕ) (e : place.At i ≡ place_of s) where
     pub inside : i < 49
     inside = subst Inside (sym e) (place_inside s)
 
     -- a float that has the value (i - 24)/2: the command answers the table's entry
     module _ (x : Float) (h : Half x (pos i -ℤ pos 24)) where
-      answered : commandGain (Decibels x) ≡ gained.Gain (pos (entry (pos i -ℤ pos 24)))
-      answered = accepted-half x (pos i -ℤ pos 24) (place-range i inside) h
+      answered : command_gain (Decibels x) ≡ gained.Gain (pos (entry (pos i -ℤ pos 24)))
+      answered = accepted_half x (pos i -ℤ pos 24) (place_range i inside) h
 
-      pub argument-gain : (g : ℤ) → gained.Gain g ≡ commandGain (Decibels x) → Gain g ≡ argumentOf s
-      unfolding argumentOf
-      argument-gain g p =
+      pub argument_gain : (g : ℤ) → gained.Gain g ≡ command_gain (Decibels x) → Gain g ≡ argument_of s
+      unfolding argument_of
+      argument_gain g p =
           let q : gained.Gain g ≡ gained.Gain (pos (entry (pos i -ℤ pos 24))) = p ∙ answered in
           let r : g ≡ pos (entry (pos i -ℤ pos 24)) = cc in
-          ap Gain r ∙ ap gainFor e
+          ap Gain r ∙ ap gain_for e
 
       -- the code's other way out is never taken
-      pub command-refuses : (r : Gained) → OneOf (1 ∷ 2 ∷ []) (tag_of declared.the_type r) → r ≡ commandGain (Decibels x) → Refused ≡ argumentOf s
-      command-refuses r t p =
+      pub command_refuses : (r : Gained) → OneOf (1 ∷ 2 ∷ []) (tag_of declared.the_type r) → r ≡ command_gain (Decibels x) → Refused ≡ argument_of s
+      command_refuses r t p =
           let u : OneOf (1 ∷ 2 ∷ []) 0 = subst (λ (q : Gained). OneOf (1 ∷ 2 ∷ []) (tag_of declared.the_type q)) (p ∙ answered) t in
           absurd (⊎_elim (λ (z : ◌≡◌ {A = ℕ} 0 1). omega arith) (λ (z : ◌≡◌ {A = ℕ} 0 2). omega arith) u)
 
 -- an argument's gain is from 0 to 16,384
-pub gain-small : (s : List ℕ) (g : ℤ) → Gain g ≡ argumentOf s → (n : ℕ) × ((g ≡ pos n) × (n ≤ largestGain))
-unfolding argumentOf
-gain-small s g = by (placeOf s) (place_inside s)
+pub gain_small : (s : List ℕ) (g : ℤ) → Gain g ≡ argument_of s → (n : ℕ) × ((g ≡ pos n) × (n ≤ largest_gain))
+unfolding argument_of
+gain_small s g = by (place_of s) (place_inside s)
   where
-    by : (p : Place) → Inside p → Gain g ≡ gainFor p → (n : ℕ) × ((g ≡ pos n) × (n ≤ largestGain))
+    by : (p : Place) → Inside p → Gain g ≡ gain_for p → (n : ℕ) × ((g ≡ pos n) × (n ≤ largest_gain))
     by (place.At i) l e =
         let r : g ≡ pos (entry (pos i -ℤ pos 24)) = cc in
-        (entry (pos i -ℤ pos 24), (r, entry-small (pos i -ℤ pos 24) (place-range i l)))
+        (entry (pos i -ℤ pos 24), (r, entry_small (pos i -ℤ pos 24) (place_range i l)))
     by place.Not l e = let z : ◌≡◌ {A = ℕ} 0 1 = cc in absurd (omega arith)
 
 -- .. so it is a machine number
-pub argument-small : (s : List ℕ) (g : ℤ) → Gain g ≡ argumentOf s → mag g < 2147483648
-argument-small s g e = let l = gain-small s g e in rw l.1.0 (omega (arith, l.1.1))
+pub argument_small : (s : List ℕ) (g : ℤ) → Gain g ≡ argument_of s → mag g < 2147483648
+argument_small s g e = let l = gain_small s g e in rw l.1.0 (omega (arith, l.1.1))

@@ -8,9 +8,9 @@ use Rattle.arguments.specs.declared.taking.Arguments.TheVariants.{Taken}
 use Rattle.arguments.specs.Arguments.{another, all_of}
 use Rattle.arguments.specs.Given.{OneTaken, AllTaken}
 
-pub none-taken : (gains : List ℤ) → AllTaken gains (Taken 0) gains
+pub none_taken : (gains : List ℤ) → AllTaken gains (Taken 0) gains
 unfolding all_of
-none-taken gains = record { texts = []; is = refl }
+none_taken gains = record { texts = []; is = refl }
 
 last : (s : Arguments × List ℤ) (texts : List (List ℕ)) (text : List ℕ) → another (all_of s texts).0 text (all_of s texts).1 ≡ all_of s (texts ++ text ∷ [])
 unfolding all_of

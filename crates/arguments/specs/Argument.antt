@@ -10,20 +10,20 @@ use Rattle.arguments.specs.declared.half.Argument.{Argument}
 use Rattle.arguments.specs.declared.half.Argument.TheVariants.{Gain, Refused}
 
 -- rule 10.2: the bytes 48 to 57
-abbrev pub isDigit : ℕ → Bool
-isDigit b = cond (ltb b 48) false (leb b 57)
+abbrev pub is_digit : ℕ → Bool
+is_digit b = cond (ltb b 48) false (leb b 57)
 
 -- rule 10.2: two digits, tens and ones, if they come to at most 24
-abbrev pub upTo24 : ℕ → ℕ → Digits
-upTo24 tens ones =
+abbrev pub up_to24 : ℕ → ℕ → Digits
+up_to24 tens ones =
     let n = 10 * (tens - 48) + (ones - 48) in
-    cond (not (isDigit tens)) digits.Not (cond (not (isDigit ones)) digits.Not (cond (leb n 24) (digits.Value n) digits.Not))
+    cond (not (is_digit tens)) digits.Not (cond (not (is_digit ones)) digits.Not (cond (leb n 24) (digits.Value n) digits.Not))
 
 -- rule 10.2: one digit or two: one digit d is 0d
-abbrev pub digitsOf : List ℕ → Digits
-digitsOf s =
-    cond (eqb (length s) 1) (upTo24 48 (get_or s 0 0))
-    (cond (eqb (length s) 2) (upTo24 (get_or s 0 0) (get_or s 1 0))
+abbrev pub digits_of : List ℕ → Digits
+digits_of s =
+    cond (eqb (length s) 1) (up_to24 48 (get_or s 0 0))
+    (cond (eqb (length s) 2) (up_to24 (get_or s 0 0) (get_or s 1 0))
     digits.Not)
 
 -- rule 7.3: the place in the gain table of n half decibels
@@ -37,20 +37,20 @@ below (digits.Value n) = place.At (24 - n)
 below digits.Not = place.Not
 
 -- rule 10.2: after at most one minus, which is the byte 45
-unfoldable pub placeOf : List ℕ → Place
-placeOf s = cond (eqb (get_or s 0 0) 45) (below (digitsOf (drop 1 s))) (above (digitsOf s))
+unfoldable pub place_of : List ℕ → Place
+place_of s = cond (eqb (get_or s 0 0) 45) (below (digits_of (drop 1 s))) (above (digits_of s))
 
 -- rule 10.4: the table's gain for place i, which is i - 24 half decibels
-abbrev pub gainFor : Place → Argument
-gainFor (place.At i) = Gain (pos (entry (pos i -ℤ pos 24)))
-gainFor place.Not = Refused
+abbrev pub gain_for : Place → Argument
+gain_for (place.At i) = Gain (pos (entry (pos i -ℤ pos 24)))
+gain_for place.Not = Refused
 
 -- rule 10.4: the gain of an argument's bytes, or 30
-unfoldable pub argumentOf : List ℕ → Argument
-unfolding placeOf
-argumentOf s = gainFor (placeOf s)
+unfoldable pub argument_of : List ℕ → Argument
+unfolding place_of
+argument_of s = gain_for (place_of s)
 
 -- in the rule book's numbers
-abbrev pub argumentAnswer : Argument → Answer ℤ
-argumentAnswer (Gain g) = accepted g
-argumentAnswer Refused = refused 30 0
+abbrev pub argument_answer : Argument → Answer ℤ
+argument_answer (Gain g) = accepted g
+argument_answer Refused = refused 30 0

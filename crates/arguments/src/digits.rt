@@ -1,6 +1,6 @@
 // The digits of an argument.
 ghost use Rattle.std.specs.Prelude.{◌≡◌};
-ghost use Rattle.arguments.specs.Argument.{isDigit, upTo24, digitsOf};
+ghost use Rattle.arguments.specs.Argument.{is_digit, up_to24, digits_of};
 
 #[derive(Drop)]
 pub(crate) enum Digits {
@@ -10,14 +10,14 @@ pub(crate) enum Digits {
 }
 
 fn is_digit(b: u8) -> bool
-    ensures { result ≡ isDigit b }
+    ensures { result ≡ is_digit b }
 {
     if b < b'0' { false } else { b <= b'9' }
 }
 
 // The number of two digits, if it is at most 24.
 fn up_to_24(tens: u8, ones: u8) -> Digits
-    ensures { result ≡ upTo24 tens ones }
+    ensures { result ≡ up_to24 tens ones }
 {
     if !is_digit(tens) {
         return Digits::Not;
@@ -34,7 +34,7 @@ fn up_to_24(tens: u8, ones: u8) -> Digits
 
 // One digit or two: one digit d is 0d.
 pub(crate) fn digits_of(s: &[u8]) -> Digits
-    ensures { result ≡ digitsOf s.now }
+    ensures { result ≡ digits_of s.now }
 {
     if s.len() == 1 {
         return up_to_24(b'0', s[0]);

@@ -1,6 +1,6 @@
 // One argument to its gain: the gain command's answer for that many half decibels.
 ghost use Rattle.std.specs.Prelude.{◌≡◌};
-ghost use Rattle.arguments.specs.Argument.{placeOf, argumentOf};
+ghost use Rattle.arguments.specs.Argument.{place_of, argument_of};
 
 use crate::digits::{Digits, digits_of};
 use gain::{Command, Gained, half_decibel};
@@ -21,7 +21,7 @@ pub enum Argument {
 }
 
 fn place_of(text: &[u8]) -> Place
-    ensures { result ≡ placeOf text.now }
+    ensures { result ≡ place_of text.now }
 {
     if text.len() == 0 {
         return Place::Not;
@@ -40,7 +40,7 @@ fn place_of(text: &[u8]) -> Place
 
 // The gain of an argument's bytes.
 pub fn gain_of(text: &[u8]) -> Argument
-    ensures { result ≡ argumentOf text.now }
+    ensures { result ≡ argument_of text.now }
 {
     let Place::At(i) = place_of(text) else {
         return Argument::Refused;

@@ -1,6 +1,6 @@
 // The arguments, one after the other, lowest band first.
 ghost use Rattle.std.specs.Prelude.{◌≡◌};
-ghost use Rattle.arguments.specs.Arguments.{another, frontWanted};
+ghost use Rattle.arguments.specs.Arguments.{another, front_wanted};
 
 use crate::half::{Argument, gain_of};
 use answers::unit::FRONT_LENGTH;
@@ -36,7 +36,7 @@ pub fn another(before: Arguments, text: &[u8], gains: &mut [i32]) -> Arguments
 
 // How many bytes of the front are to be read: none after refused arguments.
 pub fn front_wanted(arguments: Arguments) -> usize
-    ensures { result ≡ frontWanted arguments }
+    ensures { result ≡ front_wanted arguments }
 {
     let Arguments::Taken(n) = arguments else {
         return 0;

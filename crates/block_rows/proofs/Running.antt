@@ -12,28 +12,28 @@ use lib.ListN.{length, take, drop, length-drop}
 use lib.Seq.{get_or-take, drop-drop, length-take-le}
 use lib.IntN.{ℤ, pos}
 use Rattle.frames.specs.Frames.{side}
-use Rattle.frames.proofs.Laws.{side-length, side-add, side-front, put-side, put-alike}
+use Rattle.frames.proofs.Laws.{side-length, side-add, side_front, put-side, put_alike}
 use Rattle.tree.specs.Prototype.{published}
 use Rattle.lines.specs.Cascade.{Ran, run}
-use Rattle.lines.specs.Rows.{rowPlaces, wrapped, rowed, columns}
+use Rattle.lines.specs.Rows.{row_places, wrapped, rowed, columns}
 use Rattle.lines.specs.Helpers.{Region, RowRegion, RowsDone}
-use Rattle.ring.proofs.Places.{published-centred}
-use Rattle.lines.proofs.Interchange.{rows-count, rows-even}
+use Rattle.ring.proofs.Places.{published_centred}
+use Rattle.lines.proofs.Interchange.{rows_count, rows_even}
 use Rattle.lines.proofs.Turns.{turn}
-use Rattle.weighing.specs.Weighing.{out_of, bandSum, outputs}
+use Rattle.weighing.specs.Weighing.{out_of, band_sum, outputs}
 use Rattle.weighing.specs.Helpers.{WeighedUnder}
 use Rattle.block_rows.specs.Helpers.{SideDone}
 
 -- ---- the position
 
-pub wrapped-in : (size at : ℕ) → at < size → at ≡ wrapped size at
-wrapped-in size at h = rw (lt-ltb at size h)
+pub wrapped_in : (size at : ℕ) → at < size → at ≡ wrapped size at
+wrapped_in size at h = rw (lt-ltb at size h)
 
-pub wrapped-round : (size at : ℕ) → size ≤ at → 0 ≡ wrapped size at
-wrapped-round size at h = rw (le-ltb at size h)
+pub wrapped_round : (size at : ℕ) → size ≤ at → 0 ≡ wrapped size at
+wrapped_round size at h = rw (le-ltb at size h)
 
-pub wrapped-inside : (size at : ℕ) → 0 < size → wrapped size at < size
-wrapped-inside size at h = by (ltb at size) refl
+pub wrapped_inside : (size at : ℕ) → 0 < size → wrapped size at < size
+wrapped_inside size at h = by (ltb at size) refl
   where
     by : (t : Bool) → ltb at size ≡ t → cond t at 0 < size
     by true e = ltb-true at size e
@@ -44,7 +44,7 @@ wrapped-inside size at h = by (ltb at size) refl
 outputs-append : (g : ℕ → ℤ) (xs ys : List (List ℤ)) → outputs (λ _. g) (xs ++ ys) ≡ outputs (λ _. g) xs ++ outputs (λ _. g) ys
 unfolding outputs
 outputs-append g [] ys = refl
-outputs-append g (a ∷ xs) ys = ap (λ (l : List ℤ). out_of (bandSum g a) ∷ l) (outputs-append g xs ys)
+outputs-append g (a ∷ xs) ys = ap (λ (l : List ℤ). out_of (band_sum g a) ∷ l) (outputs-append g xs ys)
 
 -- ---- a row
 
@@ -54,11 +54,11 @@ row-outputs : (bands size at : ℕ) (lines xs : List ℤ) {channels s n : ℕ} {
     side channels s n after ≡ outputs (λ _. g) (columns (rowed published size (bands - 1) 1 at lines xs).rows)
 row-outputs bands size at lines xs some long d w =
     let R = rowed published size (bands - 1) 1 at lines xs in
-    let count : length R.rows ≡ bands = rows-count published size (bands - 1) 1 at lines xs ∙ suc-less bands some in
-    w.weighed R.rows count (rw (sym long) (rows-even published size (bands - 1) 1 at lines xs)) d.shown
+    let count : length R.rows ≡ bands = rows_count published size (bands - 1) 1 at lines xs ∙ suc_less bands some in
+    w.weighed R.rows count (rw (sym long) (rows_even published size (bands - 1) 1 at lines xs)) d.shown
   where
-    suc-less : (n : ℕ) → 1 ≤ n → suc (n - 1) ≡ n
-    suc-less n h = omega arith
+    suc_less : (n : ℕ) → 1 ≤ n → suc (n - 1) ≡ n
+    suc_less n h = omega arith
 
 -- ---- the loop
 
@@ -89,21 +89,21 @@ pub record Going (bands size from c s frames : ℕ) (g : ℕ → ℤ) (lines₀ 
   pub inside : at < size
   pub reached : i ≤ frames
   pub same_lines : length lines ≡ length lines₀
-  pub same-output : length output ≡ length output₀
+  pub same_output : length output ≡ length output₀
   pub same_rows : length rows ≡ length rows₀
   pub rest : went g (side c s i output) (run published size (bands - 1) at lines (side c s (frames - i) (drop (c * i) input))) ≡
       went g [] (run published size (bands - 1) from lines₀ (side c s frames input))
   pub others : (t : ℕ) → t < c → (t ≡ s → ⊥) → side c t frames output ≡ side c t frames output₀
 
-pub going-starts : (bands size from c s frames : ℕ) (g : ℕ → ℤ) (lines input rows output : List ℤ) → from < size →
+pub going_starts : (bands size from c s frames : ℕ) (g : ℕ → ℤ) (lines input rows output : List ℤ) → from < size →
     Going bands size from c s frames g lines input rows output lines rows output from 0
 unfolding side
-going-starts bands size from c s frames g lines input rows output h =
+going_starts bands size from c s frames g lines input rows output h =
     record {
       inside = h;
       reached = omega arith;
       same_lines = refl;
-      same-output = refl;
+      same_output = refl;
       same_rows = refl;
       others = λ t l n. refl;
       rest = rw (mul-zero c, sub-zero frames) refl;
@@ -111,7 +111,7 @@ going-starts bands size from c s frames g lines input rows output h =
 
 module _ {bands size from c s frames : ℕ} {g : ℕ → ℤ} {lines₀ input rows₀ output₀ lines rows output : List ℤ} {at i : ℕ}
     (going : Going bands size from c s frames g lines₀ input rows₀ output₀ lines rows output at i) (region : Region published bands size 1 lines₀)
-    (below : s < c) (whole : length input ≡ c * frames) (alike : length output₀ ≡ length input) (room : rowPlaces * bands ≤ length rows₀) where
+    (below : s < c) (whole : length input ≡ c * frames) (alike : length output₀ ≡ length input) (room : row_places * bands ≤ length rows₀) where
   -- the numbers of n frames from i on
   less : (n : ℕ) → c * (i + n) - c * i ≡ c * n
   less n = omega (arith, mul-add c i n)
@@ -120,38 +120,38 @@ module _ {bands size from c s frames : ℕ} {g : ℕ → ℤ} {lines₀ input ro
   fewer n h = mul-le-mul_left {m = i + n} {n = frames} c (omega (arith, going.reached))
 
   -- .. stand in the block, the start before the end
-  pub ends-inside : (n : ℕ) → n ≤ frames - i → (c * i ≤ c * (i + n)) × (c * (i + n) ≤ length input)
-  ends-inside n h = (omega (arith, mul-add c i n), omega (arith, whole, fewer n h))
+  pub ends_inside : (n : ℕ) → n ≤ frames - i → (c * i ≤ c * (i + n)) × (c * (i + n) ≤ length input)
+  ends_inside n h = (omega (arith, mul-add c i n), omega (arith, whole, fewer n h))
 
   part_length : (n : ℕ) (xs : List ℤ) → length xs ≡ c * frames → n ≤ frames - i → length (take (c * (i + n) - c * i) (drop (c * i) xs)) ≡ c * n
   part_length n xs e h = rw (less n) (length-take-le (c * n) (drop (c * i) xs) (rw (length-drop (c * i) xs, e) (omega (arith, fewer n h, mul-add c i n))))
 
-  output-whole : length output ≡ c * frames
-  output-whole = going.same-output ∙ alike ∙ whole
+  output_whole : length output ≡ c * frames
+  output_whole = going.same_output ∙ alike ∙ whole
 
-  pub in-length : (n : ℕ) → n ≤ frames - i → length (take (c * (i + n) - c * i) (drop (c * i) input)) ≡ c * n
-  in-length n = part_length n input whole
+  pub in_length : (n : ℕ) → n ≤ frames - i → length (take (c * (i + n) - c * i) (drop (c * i) input)) ≡ c * n
+  in_length n = part_length n input whole
 
-  pub out-length : (n : ℕ) → n ≤ frames - i → length (take (c * (i + n) - c * i) (drop (c * i) output)) ≡ c * n
-  out-length n = part_length n output output-whole
+  pub out_length : (n : ℕ) → n ≤ frames - i → length (take (c * (i + n) - c * i) (drop (c * i) output)) ≡ c * n
+  out_length n = part_length n output output_whole
 
-  pub row-region : (n : ℕ) → n ≤ rowPlaces → at + n ≤ size → RowRegion published bands size at 1 n lines rows
-  row-region n short before =
+  pub row_region : (n : ℕ) → n ≤ row_places → at + n ≤ size → RowRegion published bands size at 1 n lines rows
+  row_region n short before =
       record {
         region = record { some = region.some; few = region.few; stretch = region.stretch; sized = region.sized; whole = going.same_lines ∙ region.whole; small = region.small };
         short = short;
-        before-end = before;
+        before_end = before;
         room = rw going.same_rows room;
       }
 
   -- one side of those frames, and of the frames behind them
-  side-split : (t n : ℕ) (xs : List ℤ) → t < c → length xs ≡ c * frames → n ≤ frames - i → side c t (frames - i) (drop (c * i) xs) ≡
+  side_split : (t n : ℕ) (xs : List ℤ) → t < c → length xs ≡ c * frames → n ≤ frames - i → side c t (frames - i) (drop (c * i) xs) ≡
       side c t n (take (c * (i + n) - c * i) (drop (c * i) xs)) ++ side c t (frames - (i + n)) (drop (c * (i + n)) xs)
-  side-split t n xs l e h =
+  side_split t n xs l e h =
       let parts : frames - i ≡ n + (frames - (i + n)) = omega (arith, going.reached) in
       ap (λ (k : ℕ). side c t k (drop (c * i) xs)) parts ∙ side-add c t n (frames - (i + n)) (drop (c * i) xs) ∙
       ap₂ ◌++◌
-      (side-front c t n (drop (c * i) xs) (take (c * n) (drop (c * i) xs)) l (λ k q. sym (get_or-take (c * n) (drop (c * i) xs) k (pos 0) q)) ∙
+      (side_front c t n (drop (c * i) xs) (take (c * n) (drop (c * i) xs)) l (λ k q. sym (get_or-take (c * n) (drop (c * i) xs) k (pos 0) q)) ∙
       ap (λ (k : ℕ). side c t n (take k (drop (c * i) xs))) (sym (less n)))
       (ap (side c t (frames - (i + n))) (drop-drop (c * n) (c * i) xs ∙ ap (λ (k : ℕ). drop k xs) (sym (mul-add c i n))))
 
@@ -169,18 +169,18 @@ module _ {bands size from c s frames : ℕ} {g : ℕ → ℤ} {lines₀ input ro
       let T = run published size k (wrapped size (at + n)) R.places later in
       let long : length xs ≡ n = side-length c s n (take (c * (i + n) - c * i) (drop (c * i) input)) in
       let reach : 9 * (1 * 2 ^ (bands - 1)) ≤ size = omega (arith, region.sized) in
-      let by_Row = turn published size published-centred k at lines xs later reach (going.same_lines ∙ region.whole) going.inside (rw long before) in
+      let by_Row = turn published size published_centred k at lines xs later reach (going.same_lines ∙ region.whole) going.inside (rw long before) in
       let here : run published size k at lines (side c s (frames - i) (drop (c * i) input)) ≡ record { places = T.places; position = T.position; aligned = columns R.rows ++ T.aligned } =
-      ap (run published size k at lines) (side-split s n input below whole left) ∙ rw long at by_Row in
-      let many : length outs ≡ c * n = lo ∙ out-length n left in
+      ap (run published size k at lines) (side_split s n input below whole left) ∙ rw long at by_Row in
+      let many : length outs ≡ c * n = lo ∙ out_length n left in
       let put : side c s (i + n) (put_mid (c * i) (c * (i + n) - c * i) output outs) ≡ side c s i output ++ side c s n outs =
-      put-side c s i n (c * (i + n) - c * i) output outs below (omega (arith, output-whole, fewer n left, mul-add c i n)) many in
-      let same : run published size k (wrapped size (at + n)) ys later ≡ T = ap (λ (l : List ℤ). run published size k (wrapped size (at + n)) l later) d.places-are in
+      put-side c s i n (c * (i + n) - c * i) output outs below (omega (arith, output_whole, fewer n left, mul-add c i n)) many in
+      let same : run published size k (wrapped size (at + n)) ys later ≡ T = ap (λ (l : List ℤ). run published size k (wrapped size (at + n)) l later) d.places_are in
       record {
-        inside = wrapped-inside size (at + n) (omega (arith, going.inside));
+        inside = wrapped_inside size (at + n) (omega (arith, going.inside));
         reached = omega (arith, going.reached);
         same_lines = ly ∙ going.same_lines;
-        same-output = same_len_mid (c * i) (c * (i + n) - c * i) output outs lo ∙ going.same-output;
+        same_output = same_len_mid (c * i) (c * (i + n) - c * i) output outs lo ∙ going.same_output;
         same_rows = lr ∙ going.same_rows;
         rest = went_on g (side c s i output) (side c s n outs) (columns R.rows) T put (row-outputs bands size at lines xs region.some long d a) same here going.rest;
         others = λ t l z. kept t l z ∙ going.others t l z;
@@ -190,12 +190,12 @@ module _ {bands size from c s frames : ℕ} {g : ℕ → ℤ} {lines₀ input ro
       kept t l z =
           let all : frames ≡ i + (n + (frames - (i + n))) = omega (arith, going.reached) in
           ap₂ (λ (f k : ℕ). side c t f (put_mid (c * i) k output outs)) all (less n) ∙
-          put-alike c t i n (frames - (i + n)) output outs l (omega (arith, output-whole, fewer n left)) (lo ∙ out-length n left) (rw (less n) at (a.others t l z)) ∙
+          put_alike c t i n (frames - (i + n)) output outs l (omega (arith, output_whole, fewer n left)) (lo ∙ out_length n left) (rw (less n) at (a.others t l z)) ∙
           ap (λ (f : ℕ). side c t f output) (sym all)
 
-  pub going-ends : frames ≤ i → SideDone c s (run published size (bands - 1) from lines₀ (side c s frames input)) g lines at output₀ output
+  pub going_ends : frames ≤ i → SideDone c s (run published size (bands - 1) from lines₀ (side c s frames input)) g lines at output₀ output
   unfolding run outputs side
-  going-ends h =
+  going_ends h =
       let end : i ≡ frames = omega (arith, going.reached) in
       let over : frames - i ≡ 0 = omega arith in
       let r = run published size (bands - 1) from lines₀ (side c s frames input) in
@@ -207,7 +207,7 @@ module _ {bands size from c s frames : ℕ} {g : ℕ → ℤ} {lines₀ input ro
       let outs : side c s frames output ≡ outputs (λ _. g) r.aligned = ap (λ (w : Went). w.outs) all in
       let long : length (outputs (λ _. g) r.aligned) ≡ frames = ap length (sym outs) ∙ side-length c s frames output in
       record {
-        places-are = ap (λ (w : Went). w.places) all;
-        position-is = ap (λ (w : Went). w.position) all;
+        places_are = ap (λ (w : Went). w.places) all;
+        position_is = ap (λ (w : Went). w.position) all;
         put = record { here = rw long outs; others = λ t l n. rw long (going.others t l n) };
       }

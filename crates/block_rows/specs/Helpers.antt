@@ -2,7 +2,7 @@
 use Rattle.std.specs.Prelude.{◌≡◌, List, ℕ, ◌<◌, length, ℤ}
 use Rattle.frames.specs.Helpers.{Scattered}
 use Rattle.lines.specs.Cascade.{Ran}
-use Rattle.tree.specs.Signal.{gainOf}
+use Rattle.tree.specs.Signal.{gain_of}
 use Rattle.weighing.specs.Weighing.{outputs}
 use Rattle.weighing.specs.Helpers.{Allowed}
 
@@ -17,11 +17,11 @@ pub record Second (bands : ℕ) (others input second : List ℤ) : Type 0 where
 
 -- one side's places and position, and its outputs put back as side s
 pub record SideDone (channels s : ℕ) (r : Ran) (g : ℕ → ℤ) (places : List ℤ) (position : ℕ) (before after : List ℤ) : Type 0 where
-  pub places-are : places ≡ r.places
-  pub position-is : position ≡ r.position
+  pub places_are : places ≡ r.places
+  pub position_is : position ≡ r.position
   pub put : Scattered channels s (outputs (λ _. g) r.aligned) before after
 
 -- .. and, where a second weighing is asked for, its outputs too
 pub record BothDone (channels s : ℕ) (r : Ran) (gains others places : List ℤ) (position : ℕ) (before after before₂ after₂ : List ℤ) : Type 0 where
-  pub first : SideDone channels s r (gainOf gains) places position before after
-  pub again : Asked others → SideDone channels s r (gainOf others) places position before₂ after₂
+  pub first : SideDone channels s r (gain_of gains) places position before after
+  pub again : Asked others → SideDone channels s r (gain_of others) places position before₂ after₂

@@ -3,7 +3,7 @@ ghost use Rattle.std.specs.Prelude.{◌≡◌, ◌≤◌, ◌<◌, ◌+◌, ◌-
 ghost use Rattle.frames.specs.Frames.{side, side_of};
 ghost use Rattle.tree.specs.Prototype.{published};
 ghost use Rattle.lines.specs.Cascade.{run};
-ghost use Rattle.lines.specs.Rows.{rowPlaces, wrapped, rowed};
+ghost use Rattle.lines.specs.Rows.{row_places, wrapped, rowed};
 ghost use Rattle.lines.specs.Helpers.{Region, RowRegion, RowsDone};
 ghost use Rattle.weighing.specs.Helpers.{Allowed};
 ghost use Rattle.block_rows.specs.Helpers.{Second, BothDone};
@@ -19,7 +19,7 @@ use whole::counts::least;
 // How many samples the next row has: not past the matrix, the block or the ring's end.
 fn row_length(size: usize, at: usize, left: usize) -> usize
     requires { (at < size) × (1 ≤ left) }
-    ensures { (1 ≤ result) × (result ≤ rowPlaces) × (result ≤ left) × (at + result ≤ size) }
+    ensures { (1 ≤ result) × (result ≤ row_places) × (result ≤ left) × (at + result ≤ size) }
 {
     least(least(ROW, left), size - at)
 }
@@ -70,7 +70,7 @@ pub fn each_row(
     output: &mut [i32],
     second: &mut [i32],
 ) -> usize
-    requires { Region published bands size 1 lines.old × (from < size) × Allowed bands gains.now × Second bands others.now input.now second.old × (s < channels) × (channels ≤ 2) × (length output.old ≡ length input.now) × (length input.now % channels ≡ 0) × (rowPlaces * bands ≤ length rows.old) }
+    requires { Region published bands size 1 lines.old × (from < size) × Allowed bands gains.now × Second bands others.now input.now second.old × (s < channels) × (channels ≤ 2) × (length output.old ≡ length input.now) × (length input.now % channels ≡ 0) × (row_places * bands ≤ length rows.old) }
     ensures { BothDone channels s (run published size (bands - 1) from lines.old (side_of channels s input.now)) gains.now others.now lines.new result output.old output.new second.old second.new }
 {
     let weights = differences(gains);

@@ -2,7 +2,7 @@
 use Rattle.std.specs.Prelude.{◌≡◌, List, ℕ, ◌-◌, ◌*◌, ◌%◌, ◌≤◌, length, ℤ}
 use Rattle.frames.specs.Frames.{woven, behind, places_of}
 use Rattle.tree.specs.Prototype.{published}
-use Rattle.tree.specs.Signal.{gainOf}
+use Rattle.tree.specs.Signal.{gain_of}
 use Rattle.lines.specs.Cascade.{Ran}
 use Rattle.lines.specs.Helpers.{Region}
 use Rattle.weighing.specs.Weighing.{outputs}
@@ -19,11 +19,11 @@ pub record Sides (bands size channels : ℕ) (lines input output : List ℤ) : T
 
 -- what n frames leave, `ran s` what side s gives: the places of all sides, the position, the outputs
 pub record SidesDone (channels n : ℕ) (ran : ℕ → Ran) (g : ℕ → ℤ) (places : List ℤ) (position : ℕ) (outs : List ℤ) : Type 0 where
-  pub places-are : places ≡ behind channels (λ s. (ran s).places)
-  pub position-is : position ≡ (ran 0).position
-  pub outputs-are : outs ≡ woven channels n (λ s. outputs (λ _. g) (ran s).aligned)
+  pub places_are : places ≡ behind channels (λ s. (ran s).places)
+  pub position_is : position ≡ (ran 0).position
+  pub outputs_are : outs ≡ woven channels n (λ s. outputs (λ _. g) (ran s).aligned)
 
 -- .. and, where a second weighing is asked for, its outputs too
 pub record BothSidesDone (channels n : ℕ) (ran : ℕ → Ran) (gains others places : List ℤ) (position : ℕ) (outs outs₂ : List ℤ) : Type 0 where
-  pub first : SidesDone channels n ran (gainOf gains) places position outs
-  pub again : Asked others → SidesDone channels n ran (gainOf others) places position outs₂
+  pub first : SidesDone channels n ran (gain_of gains) places position outs
+  pub again : Asked others → SidesDone channels n ran (gain_of others) places position outs₂

@@ -3,7 +3,7 @@ ghost use Rattle.std.specs.Prelude.{◌≤◌, ◌<◌, ◌-◌, ◌*◌, ◌/�
 ghost use Rattle.frames.specs.Frames.{side_of, places_of};
 ghost use Rattle.tree.specs.Prototype.{published};
 ghost use Rattle.lines.specs.Cascade.{run};
-ghost use Rattle.lines.specs.Rows.{rowPlaces};
+ghost use Rattle.lines.specs.Rows.{row_places};
 ghost use Rattle.weighing.specs.Helpers.{Allowed};
 ghost use Rattle.block_rows.specs.Helpers.{Second};
 ghost use Rattle.block_sides.specs.Helpers.{Sides, BothSidesDone};
@@ -29,7 +29,7 @@ fn each_side(
     output: &mut [i32],
     second: &mut [i32],
 ) -> usize
-    requires { Sides bands size channels lines.old input.now output.old × (from < size) × Allowed bands gains.now × Second bands others.now input.now second.old × (rowPlaces * bands ≤ length rows.old) }
+    requires { Sides bands size channels lines.old input.now output.old × (from < size) × Allowed bands gains.now × Second bands others.now input.now second.old × (row_places * bands ≤ length rows.old) }
     ensures { BothSidesDone channels (length input.now / channels) (λ s. run published size (bands - 1) from (places_of ((bands - 1) * size) s lines.old) (side_of channels s input.now)) gains.now others.now lines.new result output.new second.new }
 {
     let places = (bands - 1) * size;

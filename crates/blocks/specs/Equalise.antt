@@ -2,10 +2,10 @@
 use Rattle.std.specs.Prelude.{Bool, ◌&&◌, List, [], ◌∷◌, ℕ, ◌-◌, ◌*◌, eqb, leb, length, drop, replicate, ℤ, pos}
 use Rattle.answers.specs.Answer.{number_in}
 use Rattle.answers.specs.Checks.{Check, check, Outcome, decide}
-use Rattle.answers.specs.Unit.{turnRoom}
+use Rattle.answers.specs.Unit.{turn_room}
 use Rattle.samples.specs.Samples.{bytes_of}
 use Rattle.octave.specs.declared.block.Blocked.{Blocked}
-use Rattle.octave.specs.Answer.{blockAnswer}
+use Rattle.octave.specs.Answer.{block_answer}
 use Rattle.octave.specs.Block.{block_of}
 use Rattle.blocks.specs.declared.block.Equalised.{Equalised}
 use Rattle.blocks.specs.declared.block.Equalised.TheVariants.{Bytes, Refused}
@@ -15,25 +15,25 @@ abbrev pub zeros : List ℤ → List ℤ
 zeros input = replicate (length input) (pos 0)
 
 -- rule 10.16: the block call of the samples
-abbrev pub blockFor : (memory gains input : List ℤ) → Outcome Blocked (List ℤ × List ℤ)
-blockFor memory gains input = block_of memory gains input (zeros input)
+abbrev pub block_for : (memory gains input : List ℤ) → Outcome Blocked (List ℤ × List ℤ)
+block_for memory gains input = block_of memory gains input (zeros input)
 
 -- rule 10.16: no more samples than a turn has room for, no more dropped than there are, and three bytes for each other output
-abbrev pub lengthsFit : (n skipped bytes : ℕ) → Bool
-lengthsFit n skipped bytes = leb n turnRoom && (leb skipped n && eqb bytes (3 * (n - skipped)))
+abbrev pub lengths_fit : (n skipped bytes : ℕ) → Bool
+lengths_fit n skipped bytes = leb n turn_room && (leb skipped n && eqb bytes (3 * (n - skipped)))
 
 -- rule 10.16: whether the block call accepted
 abbrev pub is_written : Blocked → Bool
-is_written b = eqb (number_in (blockAnswer b)) 0
+is_written b = eqb (number_in (block_answer b)) 0
 
 -- rule 10.16: the lengths, and then the block call
-abbrev pub equaliseChecks : (memory gains input : List ℤ) → ℕ → List ℕ → List (Check Equalised)
-equaliseChecks memory gains input skipped stored =
-    check (lengthsFit (length input) skipped (length stored)) Refused ∷
-    check (is_written (blockFor memory gains input).result) Refused ∷ []
+abbrev pub equalise_checks : (memory gains input : List ℤ) → ℕ → List ℕ → List (Check Equalised)
+equalise_checks memory gains input skipped stored =
+    check (lengths_fit (length input) skipped (length stored)) Refused ∷
+    check (is_written (block_for memory gains input).result) Refused ∷ []
 
 -- rule 10.16: memory and stored bytes afterwards: those of the outputs but the first `skipped` samples
-unfoldable pub equaliseOf : (memory gains input : List ℤ) → ℕ → List ℕ → Outcome Equalised (List ℤ × List ℕ)
-equaliseOf memory gains input skipped stored =
-    let b = blockFor memory gains input in
-    decide (equaliseChecks memory gains input skipped stored) (memory, stored) (Bytes (length stored)) (b.lent.0, bytes_of (drop skipped b.lent.1))
+unfoldable pub equalise_of : (memory gains input : List ℤ) → ℕ → List ℕ → Outcome Equalised (List ℤ × List ℕ)
+equalise_of memory gains input skipped stored =
+    let b = block_for memory gains input in
+    decide (equalise_checks memory gains input skipped stored) (memory, stored) (Bytes (length stored)) (b.lent.0, bytes_of (drop skipped b.lent.1))

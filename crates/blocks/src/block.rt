@@ -1,8 +1,8 @@
 // One block: samples through the equaliser, and its outputs to bytes.
 ghost use Rattle.std.specs.Prelude.{◌≡◌, replicate, pos};
 ghost use Rattle.answers.specs.Checks.{Done};
-ghost use Rattle.answers.specs.Unit.{turnRoom};
-ghost use Rattle.blocks.specs.Equalise.{lengthsFit, is_written, equaliseOf};
+ghost use Rattle.answers.specs.Unit.{turn_room};
+ghost use Rattle.blocks.specs.Equalise.{lengths_fit, is_written, equalise_of};
 
 use answers::unit::TURN_ROOM;
 use octave::block::{Blocked, block};
@@ -18,7 +18,7 @@ pub enum Equalised {
 
 // Whether a block of n samples, of which so many outputs are dropped, goes into so many bytes.
 fn fits(n: usize, skipped: usize, bytes: usize) -> bool
-    ensures { result ≡ lengthsFit n skipped bytes }
+    ensures { result ≡ lengths_fit n skipped bytes }
 {
     if TURN_ROOM < n {
         return false;
@@ -40,7 +40,7 @@ fn is_written(blocked: Blocked) -> bool
 
 // The outputs of the longest block of a run, before its call.
 fn cleared() -> [i32; TURN_ROOM]
-    ensures { result ≡ replicate turnRoom (pos 0) }
+    ensures { result ≡ replicate turn_room (pos 0) }
 {
     [0; TURN_ROOM]
 }
@@ -54,7 +54,7 @@ pub fn equalise(
     skipped: usize,
     stored: &mut [u8],
 ) -> Equalised
-    ensures { Done (equaliseOf memory.old gains.now input.now skipped stored.old) result (memory.new, stored.new) }
+    ensures { Done (equalise_of memory.old gains.now input.now skipped stored.old) result (memory.new, stored.new) }
 {
     let n = input.len();
     if !fits(n, skipped, stored.len()) {

@@ -10,13 +10,13 @@ use lib.ListN.{length}
 use lib.IntN.{ℤ, pos, negsuc, nat_abs, ◌-ℤ◌, ◌*ℤ◌}
 use lib.Signed.{lt_z, ◌≤ℤ◌}
 use Rattle.answers.specs.Checks.{check}
-use Rattle.answers.specs.Range.{firstOutside, allWithin}
-use Rattle.answers.specs.Unit.{leastSample, mostSample, blockLimit}
-use Rattle.answers.proofs.Laws.{every, chosen-every, eaching}
-use Rattle.whole.proofs.Signed.{down, Diff, lit, ◌⊖◌, ◌⊗◌, about, read-le}
-use Rattle.octave.specs.Answer.{faultNumber, lengthAnswer, preparedAnswer, blockAnswer}
-use Rattle.octave.specs.Block.{framesOf, blockChecks, equalised, block_of}
-use Rattle.octave.specs.Memory.{accepts, channelsIn, memoryLength, countAllowed, channelsAllowed, memoryLengthOf, prepared, prepareChecks, prepareOf}
+use Rattle.answers.specs.Range.{first_outside, all_within}
+use Rattle.answers.specs.Unit.{least_sample, most_sample, block_limit}
+use Rattle.answers.proofs.Laws.{every, chosen_every, eaching}
+use Rattle.whole.proofs.Signed.{down, Diff, lit, ◌⊖◌, ◌⊗◌, about, read_le}
+use Rattle.octave.specs.Answer.{fault_number, length_answer, prepared_answer, block_answer}
+use Rattle.octave.specs.Block.{frames_of, block_checks, equalised, block_of}
+use Rattle.octave.specs.Memory.{accepts, channels_in, memory_length, count_allowed, channels_allowed, memory_length_of, prepared, prepare_checks, prepare_of}
 use Rattle.octave.specs.declared.block.Blocked.{Blocked}
 use Rattle.octave.specs.declared.block.Blocked.TheVariants.{Written}
 use Rattle.octave.specs.declared.memory.Fault.{Fault}
@@ -24,22 +24,22 @@ use Rattle.octave.specs.declared.memory.Length.{Length}
 use Rattle.octave.specs.declared.memory.Length.TheVariants.{Places, BandCount, ChannelCount}
 use Rattle.octave.specs.declared.memory.Prepared.{Prepared}
 use Rattle.octave.specs.declared.memory.Prepared.TheVariants.{Delay}
-use Rattle.octave.proofs.Layouts.{line_small, memory-small}
-use Rattle.octave.proofs.Refusals.{fault-number, bad-place}
-use Rattle.octave.proofs.Ranges.{bands-of, channels-of}
-use Rattle.crossover.specs.Answer.{crossAnswer}
-use Rattle.crossover.specs.Cross.{crossChecks, crossed, cross_of}
+use Rattle.octave.proofs.Layouts.{line_small, memory_small}
+use Rattle.octave.proofs.Refusals.{fault_number_lem, bad_place}
+use Rattle.octave.proofs.Ranges.{bands_of, channels_of_lem}
+use Rattle.crossover.specs.Answer.{cross_answer}
+use Rattle.crossover.specs.Cross.{cross_checks, crossed, cross_of}
 use Rattle.crossover.specs.declared.cross.Crossed as crossing
 use Rattle.gain.specs.Answer.{answer_of}
-use Rattle.gain.specs.Promise.{commandGain}
+use Rattle.gain.specs.Promise.{command_gain}
 use Rattle.gain.specs.declared.Command.{Command}
 use Rattle.gain.specs.declared.Gained.{Gained}
 use Rattle.gain.specs.declared.Gained.TheVariants.{Gain, NotHalfDecibels, NotFactor}
 use Rattle.gain.proofs.Answers.{within}
 use Rattle.fields.specs.Bytes.{lowest, number_in, row}
 use Rattle.fields.proofs.ByTest.{cond-case}
-use Rattle.wave_writer.specs.Header.{header, writeChecks, writeOf, writeAnswer}
-use Rattle.samples.specs.Sample.{code_of, number_of, sampleIn, fromBytes, putChecks, to_bytes, sampleAnswer, putAnswer}
+use Rattle.wave_writer.specs.Header.{header, write_checks, write_of, write_answer}
+use Rattle.samples.specs.Sample.{code_of, number_of, sample_in, from_bytes, put_checks, to_bytes, sample_answer, put_answer}
 use Rattle.samples.specs.declared.format.Format.TheVariants.{Bits16, Bits24}
 use Rattle.samples.specs.declared.single.Put.{Put}
 use Rattle.samples.specs.declared.single.Put.TheVariants.{Done}
@@ -50,94 +50,94 @@ use Rattle.encoding.specs.Parts.{Refusal, Returnable, Counted}
 
 -- ---- the equaliser's calls
 
-places-small : (bands channels : ℤ) → countAllowed bands ≡ true → channelsAllowed channels ≡ true → memoryLength (nat_abs bands) (nat_abs channels) < 2 ^ 63
-places-small bands channels t u =
-    omega (arith, memory-small (nat_abs bands) (nat_abs channels) (bands-of bands t).to (channels-of channels u).to)
+places_small : (bands channels : ℤ) → count_allowed bands ≡ true → channels_allowed channels ≡ true → memory_length (nat_abs bands) (nat_abs channels) < 2 ^ 63
+places_small bands channels t u =
+    omega (arith, memory_small (nat_abs bands) (nat_abs channels) (bands_of bands t).to (channels_of_lem channels u).to)
 
-delay-small : (bands : ℤ) → countAllowed bands ≡ true → 9 * (2 ^ (nat_abs bands - 1) - 1) < 2 ^ 63
-delay-small bands t = omega (arith, line_small (nat_abs bands) (bands-of bands t).to)
+delay_small : (bands : ℤ) → count_allowed bands ≡ true → 9 * (2 ^ (nat_abs bands - 1) - 1) < 2 ^ 63
+delay_small bands t = omega (arith, line_small (nat_abs bands) (bands_of bands t).to)
 
-frames-few : (memory input : List ℤ) → leb (framesOf memory input) blockLimit ≡ true → framesOf memory input < 2 ^ 63
-frames-few memory input t = omega (arith, leb-true (framesOf memory input) blockLimit t)
+frames_few : (memory input : List ℤ) → leb (frames_of memory input) block_limit ≡ true → frames_of memory input < 2 ^ 63
+frames_few memory input t = omega (arith, leb-true (frames_of memory input) block_limit t)
 
-fault-returned : (f : Fault) → Refusal (faultNumber f) 0
-fault-returned f = let n = fault-number f in (omega (arith, n.0), omega (arith, n.1), omega arith)
+fault_returned : (f : Fault) → Refusal (fault_number f) 0
+fault_returned f = let n = fault_number_lem f in (omega (arith, n.0), omega (arith, n.1), omega arith)
 
-sample-returned : (memory input : List ℤ) → accepts memory ≡ true → eqb (length input % channelsIn memory) 0 ≡ true → leb (framesOf memory input) blockLimit ≡ true →
-    allWithin leastSample mostSample input ≡ false → Refusal 8 (firstOutside leastSample mostSample input)
-sample-returned memory input a w f b = (omega arith, omega arith, omega (arith, bad-place memory input a w f b))
+sample_returned : (memory input : List ℤ) → accepts memory ≡ true → eqb (length input % channels_in memory) 0 ≡ true → leb (frames_of memory input) block_limit ≡ true →
+    all_within least_sample most_sample input ≡ false → Refusal 8 (first_outside least_sample most_sample input)
+sample_returned memory input a w f b = (omega arith, omega arith, omega (arith, bad_place memory input a w f b))
 
-pub length-counted : (bands channels : ℤ) → Counted (lengthAnswer (memoryLengthOf bands channels))
-length-counted bands channels =
-    chosen-every (Places (memoryLength (nat_abs bands) (nat_abs channels))) (λ (r : Length). Counted (lengthAnswer r))
-    (check (countAllowed bands) BandCount ∷ check (channelsAllowed channels) ChannelCount ∷ []) (search (eaching, places-small) depth 12)
+pub length_counted : (bands channels : ℤ) → Counted (length_answer (memory_length_of bands channels))
+length_counted bands channels =
+    chosen_every (Places (memory_length (nat_abs bands) (nat_abs channels))) (λ (r : Length). Counted (length_answer r))
+    (check (count_allowed bands) BandCount ∷ check (channels_allowed channels) ChannelCount ∷ []) (search (eaching, places_small) depth 12)
 
-pub prepare-counted : (bands channels : ℤ) (memory : List ℤ) → Counted (preparedAnswer (prepareOf bands channels memory).result)
-prepare-counted bands channels memory =
-    every memory (prepared (nat_abs bands) (nat_abs channels)) (Delay (9 * (2 ^ (nat_abs bands - 1) - 1))) (λ (r : Prepared). Counted (preparedAnswer r))
-    (prepareChecks bands channels memory) (search (eaching, delay-small) depth 12)
+pub prepare_counted : (bands channels : ℤ) (memory : List ℤ) → Counted (prepared_answer (prepare_of bands channels memory).result)
+prepare_counted bands channels memory =
+    every memory (prepared (nat_abs bands) (nat_abs channels)) (Delay (9 * (2 ^ (nat_abs bands - 1) - 1))) (λ (r : Prepared). Counted (prepared_answer r))
+    (prepare_checks bands channels memory) (search (eaching, delay_small) depth 12)
 
-pub block-counted : (memory gains input output : List ℤ) → Counted (blockAnswer (block_of memory gains input output).result)
-block-counted memory gains input output =
-    every (memory, output) (equalised memory gains input) (Written (framesOf memory input)) (λ (r : Blocked). Counted (blockAnswer r))
-    (blockChecks memory gains input output) (search (eaching, fault-returned, sample-returned, frames-few) depth 20)
+pub block_counted : (memory gains input output : List ℤ) → Counted (block_answer (block_of memory gains input output).result)
+block_counted memory gains input output =
+    every (memory, output) (equalised memory gains input) (Written (frames_of memory input)) (λ (r : Blocked). Counted (block_answer r))
+    (block_checks memory gains input output) (search (eaching, fault_returned, sample_returned, frames_few) depth 20)
 
-pub cross-counted : (memory gains : List ℤ) (split : ℤ) (input low high : List ℤ) → Counted (crossAnswer (cross_of memory gains split input low high).result)
-cross-counted memory gains split input low high =
-    every (memory, low, high) (crossed memory gains (nat_abs split) input) (crossing.TheVariants.Written (framesOf memory input)) (λ (r : crossing.Crossed). Counted (crossAnswer r))
-    (crossChecks memory gains split input low high) (search (eaching, fault-returned, sample-returned, frames-few) depth 24)
+pub cross_counted : (memory gains : List ℤ) (split : ℤ) (input low high : List ℤ) → Counted (cross_answer (cross_of memory gains split input low high).result)
+cross_counted memory gains split input low high =
+    every (memory, low, high) (crossed memory gains (nat_abs split) input) (crossing.TheVariants.Written (frames_of memory input)) (λ (r : crossing.Crossed). Counted (cross_answer r))
+    (cross_checks memory gains split input low high) (search (eaching, fault_returned, sample_returned, frames_few) depth 24)
 
 -- ---- the header's writer and the codec
 
-pub write-counted : (buffer : List ℕ) (rate size : ℕ) (channels : ℤ) → Counted (writeAnswer (writeOf buffer rate size channels).result)
-unfolding writeOf
-write-counted buffer rate size channels =
-    every buffer (header rate size (nat_abs channels)) (writer.TheVariants.Header 44) (λ (r : writer.Written). Counted (writeAnswer r)) (writeChecks buffer rate size channels)
+pub write_counted : (buffer : List ℕ) (rate size : ℕ) (channels : ℤ) → Counted (write_answer (write_of buffer rate size channels).result)
+unfolding write_of
+write_counted buffer rate size channels =
+    every buffer (header rate size (nat_abs channels)) (writer.TheVariants.Header 44) (λ (r : writer.Written). Counted (write_answer r)) (write_checks buffer rate size channels)
     (search eaching depth 12)
 
-pub put-counted : (z : ℤ) (buffer : List ℕ) → Counted (putAnswer (to_bytes z buffer).result)
+pub put_counted : (z : ℤ) (buffer : List ℕ) → Counted (put_answer (to_bytes z buffer).result)
 unfolding to_bytes
-put-counted z buffer =
-    every buffer (row lowest 3 (code_of z)) (Done 3) (λ (r : Put). Counted (putAnswer r)) (putChecks z buffer) (search eaching depth 12)
+put_counted z buffer =
+    every buffer (row lowest 3 (code_of z)) (Done 3) (λ (r : Put). Counted (put_answer r)) (put_checks z buffer) (search eaching depth 12)
 
 -- a number that is not far below zero is no refusal's code
-not-far : (x : Diff) → x.n ≤ 2 ^ 62 + x.p → lt_z x.z halfway ≡ false
-not-far x h = by x.z (omega (arith, x.same, about x.z))
+not_far : (x : Diff) → x.n ≤ 2 ^ 62 + x.p → lt_z x.z halfway ≡ false
+not_far x h = by x.z (omega (arith, x.same, about x.z))
   where
     by : (z : ℤ) → down z ≤ 2 ^ 62 → lt_z z halfway ≡ false
     by (pos n) h = refl
     by (negsuc n) h = le-ltb 4611686018427387903 n (omega arith)
 
-near-16 : (s : List ℕ) → lt_z (sampleIn Bits16 s) halfway ≡ false
-unfolding sampleIn number_of
-near-16 s =
+near_16 : (s : List ℕ) → lt_z (sample_in Bits16 s) halfway ≡ false
+unfolding sample_in number_of
+near_16 s =
     let k : ℕ = number_in lowest s in
     cond-case (λ (z : ℤ). lt_z (z *ℤ pos 256) halfway ≡ false) (pos k) (pos k -ℤ pos (2 ^ 16)) (ltb k (2 ^ 15))
-    (λ _. not-far (lit k ⊗ lit 256) (omega arith)) (λ _. not-far ((lit k ⊖ lit (2 ^ 16)) ⊗ lit 256) (omega arith))
+    (λ _. not_far (lit k ⊗ lit 256) (omega arith)) (λ _. not_far ((lit k ⊖ lit (2 ^ 16)) ⊗ lit 256) (omega arith))
 
-near-24 : (s : List ℕ) → lt_z (sampleIn Bits24 s) halfway ≡ false
-unfolding sampleIn number_of
-near-24 s =
+near_24 : (s : List ℕ) → lt_z (sample_in Bits24 s) halfway ≡ false
+unfolding sample_in number_of
+near_24 s =
     let k : ℕ = number_in lowest s in
     cond-case (λ (z : ℤ). lt_z z halfway ≡ false) (pos k) (pos k -ℤ pos (2 ^ 24)) (ltb k (2 ^ 23))
-    (λ _. refl) (λ _. not-far (lit k ⊖ lit (2 ^ 24)) (omega arith))
+    (λ _. refl) (λ _. not_far (lit k ⊖ lit (2 ^ 24)) (omega arith))
 
-pub sample-returnable : (s : List ℕ) → Returnable (sampleAnswer (fromBytes s))
-unfolding fromBytes
-sample-returnable s =
-    cond-case P _ _ (eqb (length s) 2) (λ _. near-16 s)
-    (λ _. cond-case P _ _ (eqb (length s) 3) (λ _. near-24 s) (λ _. search lit<))
+pub sample_returnable : (s : List ℕ) → Returnable (sample_answer (from_bytes s))
+unfolding from_bytes
+sample_returnable s =
+    cond-case P _ _ (eqb (length s) 2) (λ _. near_16 s)
+    (λ _. cond-case P _ _ (eqb (length s) 3) (λ _. near_24 s) (λ _. search lit<))
   where
     P : Sample → Type 0
-    P r = Returnable (sampleAnswer r)
+    P r = Returnable (sample_answer r)
 
 -- ---- the gain commands
 
-pub gain-returnable : (c : Command) → Returnable (answer_of (commandGain c))
-gain-returnable c = by (commandGain c) (within c)
+pub gain_returnable : (c : Command) → Returnable (answer_of (command_gain c))
+gain_returnable c = by (command_gain c) (within c)
   where
     by : (r : Gained) → ((g : ℤ) → r ≡ Gain g → (pos 0 ≤ℤ g) × (g ≤ℤ pos 16384)) → Returnable (answer_of r)
     by (Gain (pos n)) h = refl
-    by (Gain (negsuc n)) h = absurd (omega (arith, read-le (pos 0) (negsuc n) (h (negsuc n) refl).0))
+    by (Gain (negsuc n)) h = absurd (omega (arith, read_le (pos 0) (negsuc n) (h (negsuc n) refl).0))
     by NotHalfDecibels h = search lit<
     by NotFactor h = search lit<

@@ -3,6 +3,6 @@ use Rattle.std.specs.Prelude.{Float}
 use Rattle.answers.specs.Answer.{Answer, accepted, refused}
 
 -- rule 12.9: the place afterwards: the float, and a refusal leaves it as it was
-abbrev pub floatAfter : Answer Float → Float → Float
-floatAfter (accepted x) before = x
-floatAfter (refused number place) before = before
+abbrev pub float_after : Answer Float → Float → Float
+float_after (accepted x) before = x
+float_after (refused number place) before = before

@@ -6,7 +6,7 @@ use Rattle.samples.specs.Format.{bits_of}
 use Rattle.wave.specs.Walk.{Found}
 
 -- rule 12.7: the places afterwards: each of the five is set, and a refusal leaves them as they were
-abbrev pub foundAfter : Answer Found → List ℕ → List ℕ
-foundAfter (accepted f) before =
+abbrev pub found_after : Answer Found → List ℕ → List ℕ
+found_after (accepted f) before =
     set (set (set (set (set before 0 f.rate) 1 (bits_of f.format)) 2 f.size) 3 f.start) 4 (count_of f.channels)
-foundAfter (refused number place) before = before
+found_after (refused number place) before = before

@@ -1,13 +1,13 @@
 // Floats as samples, and samples as floats.
 ghost use Rattle.std.specs.Prelude.{◌≡◌};
-ghost use Rattle.floats.specs.Value.{floatSample, floatAnswer, toFloat, floatedAnswer};
-ghost use Rattle.floats.specs.Block.{floatBlockAnswer};
-ghost use Rattle.encoding.specs.Answers.{ofCount, Returned};
+ghost use Rattle.floats.specs.Value.{float_sample, float_answer, to_float, floated_answer};
+ghost use Rattle.floats.specs.Block.{float_block_answer};
+ghost use Rattle.encoding.specs.Answers.{of_count, Returned};
 ghost use Rattle.encoding.specs.Encode.{encode};
-ghost use Rattle.parts.specs.Floated.{ofFloated};
+ghost use Rattle.parts.specs.Floated.{of_floated};
 ghost use Rattle.answers.specs.Checks.{Done};
-ghost use Rattle.capi.specs.FloatBlock.{floatsInC};
-ghost use Rattle.capi.specs.Floated.{floatAfter};
+ghost use Rattle.capi.specs.FloatBlock.{floats_in_c};
+ghost use Rattle.capi.specs.Floated.{float_after};
 
 use encoding::code::{count, signed};
 use floats::{FloatBlock, Floated};
@@ -18,14 +18,14 @@ const PLACES: usize = 18014398509481984;
 
 #[unsafe(no_mangle)]
 pub extern "C" fn oeq_sample_from_float(value: f32) -> i64
-    ensures { result ≡ encode (floatAnswer (floatSample value)) }
+    ensures { result ≡ encode (float_answer (float_sample value)) }
 {
     signed(float_sample_parts(floats::sample_from_float(value)))
 }
 
 // The float goes to the place; a refusal stores nothing.
 fn store_float(answer: Floated, value: &mut f32)
-    ensures { value.new ≡ floatAfter (floatedAnswer answer) value.old }
+    ensures { value.new ≡ float_after (floated_answer answer) value.old }
 {
     if let Floated::Is(x) = answer {
         *value = x;
@@ -34,8 +34,8 @@ fn store_float(answer: Floated, value: &mut f32)
 
 #[unsafe(no_mangle)]
 pub extern "C" fn oeq_sample_to_float(sample: i32, value: &mut f32) -> i64
-    ensures value { result ≡ encode (ofCount (ofFloated (floatedAnswer (toFloat sample)))) }
-    ensures value_after { value.new ≡ floatAfter (floatedAnswer (toFloat sample)) value.old }
+    ensures value { result ≡ encode (of_count (of_floated (floated_answer (to_float sample)))) }
+    ensures value_after { value.new ≡ float_after (floated_answer (to_float sample)) value.old }
 {
     let answer = floats::sample_to_float(sample);
     store_float(answer, value);
@@ -44,7 +44,7 @@ pub extern "C" fn oeq_sample_to_float(sample: i32, value: &mut f32) -> i64
 
 // The library's call, but for so many floats that no place of a bad one could be told.
 fn placed(values: &[f32], samples: &mut [i32]) -> FloatBlock
-    ensures { Done (floatsInC values.now samples.old) result samples.new }
+    ensures { Done (floats_in_c values.now samples.old) result samples.new }
 {
     if PLACES <= values.len() {
         return FloatBlock::WrongLength;
@@ -54,7 +54,7 @@ fn placed(values: &[f32], samples: &mut [i32]) -> FloatBlock
 
 #[unsafe(no_mangle)]
 pub extern "C" fn oeq_samples_from_floats(values: &[f32], samples: &mut [i32]) -> i64
-    ensures { Returned (λ a. ofCount (floatBlockAnswer a)) (floatsInC values.now samples.old) result samples.new }
+    ensures { Returned (λ a. of_count (float_block_answer a)) (floats_in_c values.now samples.old) result samples.new }
 {
     count(float_block_parts(placed(values, samples)))
 }

@@ -1,11 +1,11 @@
 // The WAVE header.
 ghost use Rattle.std.specs.Prelude.{◌≡◌};
-ghost use Rattle.wave_writer.specs.Header.{writeOf, writeAnswer};
-ghost use Rattle.wave.specs.Walk.{read_of, readAnswer};
-ghost use Rattle.encoding.specs.Answers.{ofCount, Returned};
+ghost use Rattle.wave_writer.specs.Header.{write_of, write_answer};
+ghost use Rattle.wave.specs.Walk.{read_of, read_answer};
+ghost use Rattle.encoding.specs.Answers.{of_count, Returned};
 ghost use Rattle.encoding.specs.Encode.{encode};
-ghost use Rattle.parts.specs.Found.{ofFound};
-ghost use Rattle.capi.specs.Found.{foundAfter};
+ghost use Rattle.parts.specs.Found.{of_found};
+ghost use Rattle.capi.specs.Found.{found_after};
 ghost use Rattle.capi.specs.Private.{StartFits};
 
 use encoding::code::count;
@@ -14,8 +14,8 @@ use wave::Reading;
 
 // What was found goes to the five places; a refusal stores nothing.
 fn store(answer: Reading, found: &mut [u32; 5])
-    requires { StartFits (readAnswer answer) }
-    ensures { found.new ≡ foundAfter (readAnswer answer) found.old }
+    requires { StartFits (read_answer answer) }
+    ensures { found.new ≡ found_after (read_answer answer) found.old }
 {
     if let Reading::Accepted {
         rate,
@@ -35,8 +35,8 @@ fn store(answer: Reading, found: &mut [u32; 5])
 
 #[unsafe(no_mangle)]
 pub extern "C" fn oeq_wave_read(front: &[u8], found: &mut [u32; 5]) -> i64
-    ensures value { result ≡ encode (ofCount (ofFound (read_of front.now))) }
-    ensures found_after { found.new ≡ foundAfter (read_of front.now) found.old }
+    ensures value { result ≡ encode (of_count (of_found (read_of front.now))) }
+    ensures found_after { found.new ≡ found_after (read_of front.now) found.old }
 {
     let answer = wave::read(front);
     store(answer, found);
@@ -45,7 +45,7 @@ pub extern "C" fn oeq_wave_read(front: &[u8], found: &mut [u32; 5]) -> i64
 
 #[unsafe(no_mangle)]
 pub extern "C" fn oeq_wave_write(buffer: &mut [u8], rate: u32, size: u32, channels: i32) -> i64
-    ensures { Returned (λ a. ofCount (writeAnswer a)) (writeOf buffer.old rate size channels) result buffer.new }
+    ensures { Returned (λ a. of_count (write_answer a)) (write_of buffer.old rate size channels) result buffer.new }
 {
     count(write_parts(wave_writer::write(buffer, rate, size, channels)))
 }

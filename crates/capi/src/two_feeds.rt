@@ -1,7 +1,7 @@
 // The crossover call.
-ghost use Rattle.crossover.specs.Answer.{crossAnswer};
+ghost use Rattle.crossover.specs.Answer.{cross_answer};
 ghost use Rattle.crossover.specs.Cross.{cross_of};
-ghost use Rattle.encoding.specs.Answers.{ofCount, Returned};
+ghost use Rattle.encoding.specs.Answers.{of_count, Returned};
 
 use crossover::cross::cross;
 use encoding::code::count;
@@ -16,7 +16,7 @@ pub extern "C" fn oeq_crossover(
     bass: &mut [i32],
     horn: &mut [i32],
 ) -> i64
-    ensures { Returned (λ a. ofCount (crossAnswer a)) (cross_of memory.old gains.now split input.now bass.old horn.old) result (memory.new, bass.new, horn.new) }
+    ensures { Returned (λ a. of_count (cross_answer a)) (cross_of memory.old gains.now split input.now bass.old horn.old) result (memory.new, bass.new, horn.new) }
 {
     count(crossed_parts(cross(memory, gains, split, input, bass, horn)))
 }

@@ -30,8 +30,8 @@ module _ (m : ℕ) (r q : List ℕ) (a : Alike m r q) where
       sym (drop-take place k r) ∙ ap (drop place) (sym (take-take (place + k) m r l) ∙ ap (take (place + k)) a.bytes ∙ take-take (place + k) m q l)
       ∙ drop-take place k q
 
-  pub alike-drop : (place k : ℕ) → place + k ≤ m → Alike k (drop place r) (drop place q)
-  alike-drop place k l =
+  pub alike_drop : (place k : ℕ) → place + k ≤ m → Alike k (drop place r) (drop place q)
+  alike_drop place k l =
       record {
         bytes = part place k l;
         long = omega (arith, a.long, length-drop place r);
@@ -42,5 +42,5 @@ module _ (m : ℕ) (r q : List ℕ) (a : Alike m r q) where
   unfolding field
   field_alike order place k l = ap (number_in order) (part place k l)
 
-  pub name-alike : (name : List ℕ) → 4 ≤ m → named r name ≡ named q name
-  name-alike name l = ap (λ (s : List ℕ). same s name) (part 0 4 l)
+  pub name_alike : (name : List ℕ) → 4 ≤ m → named r name ≡ named q name
+  name_alike name l = ap (λ (s : List ℕ). same s name) (part 0 4 l)

@@ -11,44 +11,44 @@ use borrow.Author.Tests.{leb-true, leb-false, le-leb, lt-leb}
 use Rattle.fields.specs.Bytes.{Order, number_in, field, row}
 use Rattle.fields.proofs.ByTest.{by-test}
 use Rattle.fields.proofs.Rows.{length-row, behind}
-use Rattle.chunks.specs.Walk.{headerLength, chunkHeader, sizeIn, next}
+use Rattle.chunks.specs.Walk.{header_length, chunk_header, size_in, next}
 
 -- ---- in the front
 
-pub no_header : (n at : ℕ) → n < at → false ≡ leb (at + headerLength) n
-no_header n at l = sym (lt-leb (at + headerLength) n (omega arith))
+pub no_header : (n at : ℕ) → n < at → false ≡ leb (at + header_length) n
+no_header n at l = sym (lt-leb (at + header_length) n (omega arith))
 
-pub header-room : (n at : ℕ) → at ≤ n → leb headerLength (n - at) ≡ leb (at + headerLength) n
-header-room n at l =
-    by-test (leb headerLength (n - at))
-    (λ t. t ∙ sym (le-leb (at + headerLength) n (omega (arith, leb-true headerLength (n - at) t))))
-    (λ t. t ∙ sym (lt-leb (at + headerLength) n (omega (arith, leb-false headerLength (n - at) t))))
+pub header_room : (n at : ℕ) → at ≤ n → leb header_length (n - at) ≡ leb (at + header_length) n
+header_room n at l =
+    by-test (leb header_length (n - at))
+    (λ t. t ∙ sym (le-leb (at + header_length) n (omega (arith, leb-true header_length (n - at) t))))
+    (λ t. t ∙ sym (lt-leb (at + header_length) n (omega (arith, leb-false header_length (n - at) t))))
 
 -- what a reader's loop is told by the test
-module _ (n at : ℕ) (r : Bool) (is : r ≡ leb (at + headerLength) n) where
-  pub header-there : r ≡ true → at + headerLength ≤ n
-  header-there t = leb-true (at + headerLength) n (sym is ∙ t)
+module _ (n at : ℕ) (r : Bool) (is : r ≡ leb (at + header_length) n) where
+  pub header_there : r ≡ true → at + header_length ≤ n
+  header_there t = leb-true (at + header_length) n (sym is ∙ t)
 
-  pub header-gone : r ≡ false → n < at + headerLength
-  header-gone t = leb-false (at + headerLength) n (sym is ∙ t)
+  pub header_gone : r ≡ false → n < at + header_length
+  header_gone t = leb-false (at + header_length) n (sym is ∙ t)
 
 -- ---- the length, read at its place in the front
 
-pub size-there : (order : Order) (front : List ℕ) (at : ℕ) → sizeIn order (drop at front) ≡ field order front (at + 4) 4
+pub size_there : (order : Order) (front : List ℕ) (at : ℕ) → size_in order (drop at front) ≡ field order front (at + 4) 4
 unfolding field
-size-there order front at = ap (λ (s : List ℕ). number_in order (take 4 s)) (drop-drop 4 at front)
+size_there order front at = ap (λ (s : List ℕ). number_in order (take 4 s)) (drop-drop 4 at front)
 
-pub next-there : (order : Order) (front : List ℕ) (at place size : ℕ) → place ≡ next at size → size ≡ field order front (at + 4) 4 →
-    place ≡ next at (sizeIn order (drop at front))
-next-there order front at place size e s = e ∙ ap (next at) (s ∙ sym (size-there order front at))
+pub next_there : (order : Order) (front : List ℕ) (at place size : ℕ) → place ≡ next at size → size ≡ field order front (at + 4) 4 →
+    place ≡ next at (size_in order (drop at front))
+next_there order front at place size e s = e ∙ ap (next at) (s ∙ sym (size_there order front at))
 
 -- ---- the bytes
 
-pub length-header : (order : Order) (name : List ℕ) (size : ℕ) → length name ≡ 4 → length (chunkHeader order name size) ≡ headerLength
-unfolding chunkHeader
+pub length-header : (order : Order) (name : List ℕ) (size : ℕ) → length name ≡ 4 → length (chunk_header order name size) ≡ header_length
+unfolding chunk_header
 length-header order name size four = length-append name (row order 4 size) ∙ omega (arith, length-row order 4 size)
 
 pub header_row : (order : Order) (l m n name : List ℕ) (at size : ℕ) → length name ≡ 4 →
-    m ≡ sets l at name → n ≡ sets m (at + 4) (row order 4 size) → n ≡ sets l at (chunkHeader order name size)
-unfolding chunkHeader
+    m ≡ sets l at name → n ≡ sets m (at + 4) (row order 4 size) → n ≡ sets l at (chunk_header order name size)
+unfolding chunk_header
 header_row order l m n name at size four e₁ e₂ = behind l m n name (row order 4 size) at 4 four e₁ e₂

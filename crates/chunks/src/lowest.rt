@@ -2,7 +2,7 @@
 ghost use Rattle.std.specs.Prelude.{◌≡◌, ◌+◌, ◌≤◌, length, drop};
 ghost use Rattle.std.proofs.lemmas.List.Edits.{sets};
 ghost use Rattle.fields.specs.Bytes.{lowest};
-ghost use Rattle.chunks.specs.Walk.{headerLength, chunkHeader, sizeIn, contained, next};
+ghost use Rattle.chunks.specs.Walk.{header_length, chunk_header, size_in, contained, next};
 
 use crate::place::{HEADER_LENGTH, next_chunk};
 use fields::lowest::{four, put_four};
@@ -10,15 +10,15 @@ use fields::names::put_name;
 
 // The length that the chunk's header states.
 pub fn size_in(rest: &[u8]) -> u32
-    requires { headerLength ≤ length rest.now }
-    ensures { result ≡ sizeIn lowest rest.now }
+    requires { header_length ≤ length rest.now }
+    ensures { result ≡ size_in lowest rest.now }
 {
     four(rest, 4)
 }
 
 // Whether the chunk's contents are all in the front.
 pub fn contained(rest: &[u8]) -> bool
-    requires { headerLength ≤ length rest.now }
+    requires { header_length ≤ length rest.now }
     ensures { result ≡ contained lowest rest.now }
 {
     HEADER_LENGTH + size_in(rest) as usize <= rest.len()
@@ -26,16 +26,16 @@ pub fn contained(rest: &[u8]) -> bool
 
 // Where the chunk behind the one at a place starts.
 pub fn next_after(front: &[u8], at: usize) -> usize
-    requires { at + headerLength ≤ length front.now }
-    ensures { result ≡ next at (sizeIn lowest (drop at front.now)) }
+    requires { at + header_length ≤ length front.now }
+    ensures { result ≡ next at (size_in lowest (drop at front.now)) }
 {
     next_chunk(at, four(front, at + 4))
 }
 
 // Writes a chunk's header.
 pub fn put_chunk(buffer: &mut [u8], at: usize, name: &[u8; 4], size: u32)
-    requires { (at + headerLength ≤ length buffer.old) × (length name.now ≡ 4) }
-    ensures { buffer.new ≡ sets buffer.old at (chunkHeader lowest name.now size) }
+    requires { (at + header_length ≤ length buffer.old) × (length name.now ≡ 4) }
+    ensures { buffer.new ≡ sets buffer.old at (chunk_header lowest name.now size) }
 {
     put_name(buffer, at, name);
     put_four(buffer, at + 4, size);

@@ -1,6 +1,6 @@
 // Where chunks stand in a front.
 ghost use Rattle.std.specs.Prelude.{◌≡◌, ◌+◌, ◌<◌, ◌^◌, leb, length};
-ghost use Rattle.chunks.specs.Walk.{headerLength, padding, next};
+ghost use Rattle.chunks.specs.Walk.{header_length, padding, next};
 
 // A chunk's header: its name and the length of its contents.
 pub const HEADER_LENGTH: usize = 8;
@@ -23,7 +23,7 @@ pub fn next_chunk(at: usize, size: u32) -> usize
 
 // Whether a chunk's header is wholly in the front.
 pub fn header_in(front: &[u8], at: usize) -> bool
-    ensures { result ≡ leb (at + headerLength) (length front.now) }
+    ensures { result ≡ leb (at + header_length) (length front.now) }
 {
     if front.len() < at {
         return false;

@@ -25,11 +25,11 @@ module _ (number place : ℕ) (h : number < 256) (g : place < 2 ^ 54) where
 
 -- such a count above INT64_MIN lies below halfway, and comes back
 module _ (k : ℕ) (h : k < 2 ^ 62) where
-  refusal-below : lt_z (least +ℤ pos k) halfway ≡ true
-  refusal-below = rw (above-least k (omega arith)) (lt-ltb 4611686018427387903 (9223372036854775807 - k) (omega arith))
+  refusal_below : lt_z (least +ℤ pos k) halfway ≡ true
+  refusal_below = rw (above-least k (omega arith)) (lt-ltb 4611686018427387903 (9223372036854775807 - k) (omega arith))
 
-  count-back : nat_abs ((least +ℤ pos k) -ℤ least) ≡ k
-  count-back =
+  count_back : nat_abs ((least +ℤ pos k) -ℤ least) ≡ k
+  count_back =
       rw (above-least k (omega arith), le-ltb 9223372036854775808 (suc (9223372036854775807 - k)) (omega arith)) (omega arith)
 
 -- ---- decoding
@@ -39,8 +39,8 @@ unfolding encode decode
 decode-encode (accepted z) h = rw h
 decode-encode (refused number place) h =
     rw (
-      refusal-below (number + 256 * place) (count_small number place h.0 h.1),
-      count-back (number + 256 * place) (count_small number place h.0 h.1),
+      refusal_below (number + 256 * place) (count_small number place h.0 h.1),
+      count_back (number + 256 * place) (count_small number place h.0 h.1),
     )
     (ap₂ refused (number-back number place h.0 h.1) (place-back number place h.0 h.1))
 
@@ -48,10 +48,10 @@ decode-encode (refused number place) h =
 pub encode_one : (a b : Answer ℤ) → Apart a → Apart b → encode a ≡ encode b → a ≡ b
 encode_one a b h g e = sym (decode-encode a h) ∙ ap decode e ∙ decode-encode b g
 
-accepted-not-refused : (z : ℤ) (number place : ℕ) → ◌≡◌ {A = Answer ℤ} (accepted z) (refused number place) → ⊥
-accepted-not-refused z number place e = let n : ◌≡◌ {A = ℕ} 0 1 = cc in omega arith
+accepted_not_refused : (z : ℤ) (number place : ℕ) → ◌≡◌ {A = Answer ℤ} (accepted z) (refused number place) → ⊥
+accepted_not_refused z number place e = let n : ◌≡◌ {A = ℕ} 0 1 = cc in omega arith
 
 -- a refusal is never an accepted answer's code
 pub never-meets :
     (z : ℤ) (number place : ℕ) → Apart (accepted z) → Apart (refused number place) → encode (accepted z) ≡ encode (refused number place) → ⊥
-never-meets z number place h g e = accepted-not-refused z number place (encode_one (accepted z) (refused number place) h g e)
+never-meets z number place h g e = accepted_not_refused z number place (encode_one (accepted z) (refused number place) h g e)

@@ -5,9 +5,9 @@ use Rattle.answers.specs.Checks.{Outcome}
 use Rattle.encoding.specs.Encode.{encode}
 
 -- rule 12.2: a length, a delay, a number of samples or of bytes
-abbrev pub ofCount : Answer ℕ → Answer ℤ
-ofCount (accepted n) = accepted (pos n)
-ofCount (refused number place) = refused number place
+abbrev pub of_count : Answer ℕ → Answer ℤ
+of_count (accepted n) = accepted (pos n)
+of_count (refused number place) = refused number place
 
 -- rule 12.8: a call's answer is returned encoded, and the places lent to it are as the call leaves them
 pub record Returned {R L : Type 0} (answer_of : R → Answer ℤ) (o : Outcome R L) (code : ℤ) (lent : L) : Type 0 where

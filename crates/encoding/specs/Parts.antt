@@ -5,19 +5,19 @@ use Rattle.answers.specs.Answer.{Answer, accepted, refused, number_in, place_in}
 use Rattle.encoding.specs.Encode.{least, halfway}
 
 -- the value of an accepted answer, and another one for a refusal
-abbrev pub valueIn : {A : Type 0} → A → Answer A → A
-valueIn other (accepted a) = a
-valueIn other (refused number place) = other
+abbrev pub value_in : {A : Type 0} → A → Answer A → A
+value_in other (accepted a) = a
+value_in other (refused number place) = other
 
 -- an answer taken apart
 pub record Parts {A : Type 0} (other : A) (a : Answer A) (number place : ℕ) (value : A) : Type 0 where
   pub number_is : number ≡ number_in a
   pub place_is : place ≡ place_in a
-  pub value-is : value ≡ valueIn other a
+  pub value_is : value ≡ value_in other a
 
 -- .. and encoded: no refusal has the number 0
-abbrev pub encodeParts : ℕ → ℕ → ℤ → ℤ
-encodeParts number place value = cond (eqb number 0) value (least +ℤ pos (number + 256 * place))
+abbrev pub encode_parts : ℕ → ℕ → ℤ → ℤ
+encode_parts number place value = cond (eqb number 0) value (least +ℤ pos (number + 256 * place))
 
 -- a refusal that the code can return: its number is not 0 and fits a byte, and its place fits what is left
 abbrev pub Refusal : ℕ → ℕ → Type 0

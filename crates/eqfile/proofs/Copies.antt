@@ -6,7 +6,7 @@ use native.Mathlib.Numerals.{add-one}
 use native.Mathlib.Omega.{arith}
 use lib.ListN.{length, get_or, take, drop, set, length-set, length-take, length-drop}
 use lib.Seq.{take-suc, take-suc-set, take_all, length-take-le}
-use Rattle.eqfile.specs.Front.{carryOf}
+use Rattle.eqfile.specs.Front.{carry_of}
 
 -- i bytes are copied
 pub record Copying (from old new : List ℕ) (i : ℕ) : Type 0 where
@@ -15,8 +15,8 @@ pub record Copying (from old new : List ℕ) (i : ℕ) : Type 0 where
   pub done : take i new ≡ take i from
 
 module _ (from old : List ℕ) (alike : length from ≡ length old) where
-  pub copying-turn : (new : List ℕ) (i : ℕ) → Copying from old new i → i < length new → Copying from old (set new i (get_or from i 0)) (i + 1)
-  copying-turn new i c h =
+  pub copying_turn : (new : List ℕ) (i : ℕ) → Copying from old new i → i < length new → Copying from old (set new i (get_or from i 0)) (i + 1)
+  copying_turn new i c h =
       record {
         long = length-set new i (get_or from i 0) ∙ c.long;
         below = omega arith;
@@ -31,18 +31,18 @@ module _ (from old : List ℕ) (alike : length from ≡ length old) where
 -- ---- the data that came with the front
 
 module _ (front bytes : List ℕ) (from left n : ℕ) (there : left ≡ length front - from) (is : n ≡ min left (length bytes)) where
-  pub nothing-there : n ≡ 0 → (0, bytes) ≡ carryOf front from bytes
-  unfolding carryOf
-  nothing-there z = ap (λ (k : ℕ). (k, take k (drop from front) ++ drop k bytes)) (sym z ∙ is ∙ ap (λ (k : ℕ). min k (length bytes)) there)
+  pub nothing_there : n ≡ 0 → (0, bytes) ≡ carry_of front from bytes
+  unfolding carry_of
+  nothing_there z = ap (λ (k : ℕ). (k, take k (drop from front) ++ drop k bytes)) (sym z ∙ is ∙ ap (λ (k : ℕ). min k (length bytes)) there)
 
-  pub part-long : length (take n bytes) ≡ n
-  part-long = length-take-le n bytes (omega arith)
+  pub part_long : length (take n bytes) ≡ n
+  part_long = length-take-le n bytes (omega arith)
 
-  pub parts-alike : length (take (from + n - from) (drop from front)) ≡ length (take n bytes)
-  parts-alike = simp (length-take, length-drop) (omega arith)
+  pub parts_alike : length (take (from + n - from) (drop from front)) ≡ length (take n bytes)
+  parts_alike = simp (length-take, length-drop) (omega arith)
 
-  pub carried : (new : List ℕ) → new ≡ take (from + n - from) (drop from front) → (n, new ++ drop n bytes) ≡ carryOf front from bytes
-  unfolding carryOf
+  pub carried : (new : List ℕ) → new ≡ take (from + n - from) (drop from front) → (n, new ++ drop n bytes) ≡ carry_of front from bytes
+  unfolding carry_of
   carried new e =
       let k : from + n - from ≡ n = omega arith in
       ap (λ (l : List ℕ). (n, l ++ drop n bytes)) (e ∙ ap (λ (j : ℕ). take j (drop from front)) k) ∙

@@ -5,42 +5,42 @@ use mathlib.Core.List.{List}
 use Prim.Native.Nat.{ℕ}
 use lib.Dec.{eqb}
 use Rattle.answers.specs.Answer.{Answer, accepted, refused}
-use Rattle.answers.proofs.Laws.{one-case}
+use Rattle.answers.proofs.Laws.{one_case}
 use Rattle.wave.specs.declared.refusal.Refusal.TheVariants as header
-use Rattle.wave.proofs.OneAnswer.{refusal-back}
+use Rattle.wave.proofs.OneAnswer.{refusal_back_lem}
 use Rattle.arguments.specs.declared.taking.Arguments.{Arguments}
 use Rattle.eqfile.specs.declared.refusal.Refusal.{Refusal}
 use Rattle.eqfile.specs.declared.refusal.Refusal.TheVariants as refusal
 use Rattle.eqfile.specs.declared.start.Start.{Start}
 use Rattle.eqfile.specs.declared.start.Start.TheVariants as start
-use Rattle.eqfile.specs.Start.{Plan, number_of, start_of, startAnswer}
+use Rattle.eqfile.specs.Start.{Plan, number_of, start_of, start_answer}
 
 -- ---- the way back
 
-refusalBack : ℕ → Refusal
-refusalBack n = cond (eqb n 30) refusal.Arguments (cond (eqb n 26) refusal.TooLong (cond (eqb n 41) refusal.NotNumber (refusal.Header (refusal-back n))))
+refusal_back : ℕ → Refusal
+refusal_back n = cond (eqb n 30) refusal.Arguments (cond (eqb n 26) refusal.TooLong (cond (eqb n 41) refusal.NotNumber (refusal.Header (refusal_back_lem n))))
 
-startBack : Answer Plan → Start
-startBack (accepted p) = start.Run p.rate p.format p.channels p.frames p.start
-startBack (refused n p) = start.Refused (refusalBack n)
+start_back : Answer Plan → Start
+start_back (accepted p) = start.Run p.rate p.format p.channels p.frames p.start
+start_back (refused n p) = start.Refused (refusal_back n)
 
-refusal-way : (r : Refusal) → refusalBack (number_of r) ≡ r
-unfolding refusalBack
-refusal-way refusal.Arguments = refl
-refusal-way (refusal.Header header.NotWave) = refl
-refusal-way (refusal.Header header.NoFormat) = refl
-refusal-way (refusal.Header header.WrongFormat) = refl
-refusal-way (refusal.Header header.CutOff) = refl
-refusal-way (refusal.Header header.PartFrame) = refl
-refusal-way refusal.TooLong = refl
-refusal-way refusal.NotNumber = refl
+refusal_way : (r : Refusal) → refusal_back (number_of r) ≡ r
+unfolding refusal_back
+refusal_way refusal.Arguments = refl
+refusal_way (refusal.Header header.NotWave) = refl
+refusal_way (refusal.Header header.NoFormat) = refl
+refusal_way (refusal.Header header.WrongFormat) = refl
+refusal_way (refusal.Header header.CutOff) = refl
+refusal_way (refusal.Header header.PartFrame) = refl
+refusal_way refusal.TooLong = refl
+refusal_way refusal.NotNumber = refl
 
-start-way : (r : Start) → startBack (startAnswer r) ≡ r
-unfolding startBack
-start-way (start.Run rate format channels frames at) = refl
-start-way (start.Refused r) = ap start.Refused (refusal-way r)
+start_way : (r : Start) → start_back (start_answer r) ≡ r
+unfolding start_back
+start_way (start.Run rate format channels frames at) = refl
+start_way (start.Refused r) = ap start.Refused (refusal_way r)
 
 -- ---- one answer
 
-pub one-start : (so_far : Arguments) (front : List ℕ) (r q : Start) → startAnswer r ≡ start_of so_far front → startAnswer q ≡ start_of so_far front → r ≡ q
-one-start so_far front r q = one-case startAnswer startBack start-way
+pub one_start : (so_far : Arguments) (front : List ℕ) (r q : Start) → start_answer r ≡ start_of so_far front → start_answer q ≡ start_of so_far front → r ≡ q
+one_start so_far front r q = one_case start_answer start_back start_way

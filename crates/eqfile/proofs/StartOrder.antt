@@ -7,48 +7,48 @@ use Prim.Native.Nat.{ℕ, ◌*◌, ◌/◌, ◌≤◌, ◌<◌}
 use native.Mathlib.Omega.{arith}
 use borrow.Author.Tests.{lt-ltb, le-ltb, ltb-false, eq-eqb, ne_eqb}
 use Rattle.answers.specs.Answer.{Answer, accepted, refused}
-use Rattle.answers.specs.Unit.{largestData}
+use Rattle.answers.specs.Unit.{largest_data}
 use Rattle.samples.specs.Channels.{count_of}
 use Rattle.samples.specs.declared.channels.Channels.{Channels}
 use Rattle.samples.specs.declared.channels.Channels.TheVariants.{One, Two}
-use Rattle.wave.specs.Walk.{Found, read_of, readAnswer}
+use Rattle.wave.specs.Walk.{Found, read_of, read_answer}
 use Rattle.samples.specs.declared.format.Format.{Format}
-use Rattle.wave_values.specs.Values.{frameSize}
+use Rattle.wave_values.specs.Values.{frame_size}
 use Rattle.wave.specs.declared.reader.Reading.TheVariants.{Accepted}
 use Rattle.arguments.specs.declared.taking.Arguments.{Arguments}
 use Rattle.arguments.specs.declared.taking.Arguments.TheVariants as arguments
 use Rattle.arguments.specs.Arguments.{bands}
-use Rattle.eqfile.specs.Start.{Plan, planFor, plan_of, start_of}
+use Rattle.eqfile.specs.Start.{Plan, plan_for, plan_of, start_of}
 
-pub reader-refuses : (k : ℕ) → refused k 0 ≡ plan_of (refused k 0)
+pub reader_refuses : (k : ℕ) → refused k 0 ≡ plan_of (refused k 0)
 unfolding plan_of
-reader-refuses k = refl
+reader_refuses k = refl
 
 -- the most samples that a header can state, as frames of so many channels
-more-than : (channels : Channels) (n : ℕ) → largestData / 3 / count_of channels < n → largestData < 3 * (count_of channels * n)
-more-than One n h = omega arith
-more-than Two n h = omega arith
+more_than : (channels : Channels) (n : ℕ) → largest_data / 3 / count_of channels < n → largest_data < 3 * (count_of channels * n)
+more_than One n h = omega arith
+more_than Two n h = omega arith
 
-no-more-than : (channels : Channels) (n : ℕ) → n ≤ largestData / 3 / count_of channels → 3 * (count_of channels * n) ≤ largestData
-no-more-than One n h = omega arith
-no-more-than Two n h = omega arith
+no_more_than : (channels : Channels) (n : ℕ) → n ≤ largest_data / 3 / count_of channels → 3 * (count_of channels * n) ≤ largest_data
+no_more_than One n h = omega arith
+no_more_than Two n h = omega arith
 
-module _ (rate : ℕ) (format : Format) (channels : Channels) (size start block count : ℕ) (is : block ≡ frameSize (count_of channels) format) (sides : count ≡ count_of channels) where
+module _ (rate : ℕ) (format : Format) (channels : Channels) (size start block count : ℕ) (is : block ≡ frame_size (count_of channels) format) (sides : count ≡ count_of channels) where
   abbrev frames : ℕ
-  frames = size / frameSize (count_of channels) format
+  frames = size / frame_size (count_of channels) format
 
-  pub too_long : largestData / 3 / count < size / block → refused 26 0 ≡ plan_of (readAnswer (Accepted rate format channels size start))
+  pub too_long : largest_data / 3 / count < size / block → refused 26 0 ≡ plan_of (read_answer (Accepted rate format channels size start))
   unfolding plan_of
-  too_long h = rw (lt-ltb largestData (3 * (count_of channels * frames)) (more-than channels frames (rw (is, sides) at h)))
+  too_long h = rw (lt-ltb largest_data (3 * (count_of channels * frames)) (more_than channels frames (rw (is, sides) at h)))
 
-  pub to-be-written : size / block ≤ largestData / 3 / count →
-      accepted (record { rate = rate; format = format; channels = channels; frames = size / block; start = start }) ≡ plan_of (readAnswer (Accepted rate format channels size start))
+  pub to_be_written : size / block ≤ largest_data / 3 / count →
+      accepted (record { rate = rate; format = format; channels = channels; frames = size / block; start = start }) ≡ plan_of (read_answer (Accepted rate format channels size start))
   unfolding plan_of
-  to-be-written h = rw (is, le-ltb largestData (3 * (count_of channels * frames)) (no-more-than channels frames (rw (is, sides) at h)))
+  to_be_written h = rw (is, le-ltb largest_data (3 * (count_of channels * frames)) (no_more_than channels frames (rw (is, sides) at h)))
 
-pub arguments-refused : (front : List ℕ) → refused 30 0 ≡ start_of arguments.Refused front
+pub arguments_refused : (front : List ℕ) → refused 30 0 ≡ start_of arguments.Refused front
 unfolding start_of
-arguments-refused front = refl
+arguments_refused front = refl
 
 pub not_eight : (n : ℕ) (front : List ℕ) → (n ≡ bands → ⊥) → refused 30 0 ≡ start_of (arguments.Taken n) front
 unfolding start_of
@@ -60,27 +60,27 @@ eight n front a h e = rw (eq-eqb n bands h, e)
 
 -- a run that starts has frames whose bytes a header can state
 abbrev pub Writable : Answer Plan → Type 0
-Writable (accepted p) = 3 * (count_of p.channels * p.frames) ≤ largestData
+Writable (accepted p) = 3 * (count_of p.channels * p.frames) ≤ largest_data
 Writable (refused k p) = Unit {0}
 
-writable-plan : (f : Found) → Writable (planFor f)
-writable-plan f = by (ltb largestData (3 * (count * frames))) refl
+writable_plan : (f : Found) → Writable (plan_for f)
+writable_plan f = by (ltb largest_data (3 * (count * frames))) refl
   where
     count : ℕ
     count = count_of f.channels
 
     frames : ℕ
-    frames = f.size / frameSize count f.format
+    frames = f.size / frame_size count f.format
 
-    by : (b : Bool) → ltb largestData (3 * (count * frames)) ≡ b →
+    by : (b : Bool) → ltb largest_data (3 * (count * frames)) ≡ b →
         Writable (cond b (refused 26 0) (accepted (record { rate = f.rate; format = f.format; channels = f.channels; frames = frames; start = f.start })))
     by true e = tt
-    by false e = let h = ltb-false largestData (3 * (count * frames)) e in omega arith
+    by false e = let h = ltb-false largest_data (3 * (count * frames)) e in omega arith
 
-writable-read : (a : Answer Found) → Writable (plan_of a)
+writable_read : (a : Answer Found) → Writable (plan_of a)
 unfolding plan_of
-writable-read (accepted f) = writable-plan f
-writable-read (refused k p) = tt
+writable_read (accepted f) = writable_plan f
+writable_read (refused k p) = tt
 
 pub writable : (a : Arguments) (front : List ℕ) → Writable (start_of a front)
 unfolding start_of
@@ -88,5 +88,5 @@ writable arguments.Refused front = tt
 writable (arguments.Taken n) front = by (eqb n bands)
   where
     by : (b : Bool) → Writable (cond b (plan_of (read_of front)) (refused 30 0))
-    by true = writable-read (read_of front)
+    by true = writable_read (read_of front)
     by false = tt

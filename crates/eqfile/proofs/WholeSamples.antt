@@ -14,16 +14,16 @@ use borrow.Rule.Slice.PartMut.{put_mid}
 use types.Run.{OneOf}
 use denote.Enum.Declared.{tag_of}
 use Rattle.answers.specs.Checks.{check, Outcome, Done, decide}
-use Rattle.answers.specs.First.{firstFailing}
-use Rattle.samples.specs.Samples.{samplesOf, pieces_of, firstBad, allSamples, blockFrom}
+use Rattle.answers.specs.First.{first_failing}
+use Rattle.samples.specs.Samples.{samples_of, pieces_of, first_bad, all_samples, block_from}
 use Rattle.samples.specs.Format.{size_of}
-use Rattle.samples.specs.Sample.{isSampleIn, sampleIn}
+use Rattle.samples.specs.Sample.{is_sample_in, sample_in}
 use Rattle.samples.specs.declared.format.Format.{Format}
 use Rattle.samples.specs.declared.block.Taken.{Taken}
 use Rattle.samples.specs.declared.block.Taken.TheVariants.{Samples, NotNumber}
 use Rattle.samples.specs.contracts.block.Taken as declared
 use Rattle.samples.proofs.Taking.{length-samples}
-use Rattle.eqfile.specs.Data.{thereOf, samplesFrom, numbersFrom, takenFrom}
+use Rattle.eqfile.specs.Data.{there_of, samples_from, numbers_from, taken_from}
 use Rattle.eqfile.proofs.Turns.{few_bytes}
 
 drop-take : {A : Type 0} (m n : ℕ) (l : List A) → drop m (take (m + n) l) ≡ take n (drop m l)
@@ -32,83 +32,83 @@ drop-take (suc m) n [] = ap (drop (suc m)) (take-nil (suc m + n)) ∙ sym (take-
 drop-take (suc m) n (x ∷ l) = ap (λ (k : ℕ). drop (suc m) (take k (x ∷ l))) (suc-add m n) ∙ drop-take m n l
 
 -- n samples are in the first n·size bytes
-pub samples-in-front : (n : ℕ) (format : Format) (s : List ℕ) → samplesOf n format (take (n * size_of format) s) ≡ samplesOf n format s
-unfolding samplesOf
-samples-in-front zero format s = refl
-samples-in-front (suc n) format s =
+pub samples_in_front : (n : ℕ) (format : Format) (s : List ℕ) → samples_of n format (take (n * size_of format) s) ≡ samples_of n format s
+unfolding samples_of
+samples_in_front zero format s = refl
+samples_in_front (suc n) format s =
     let size = size_of format in
     let e : suc n * size ≡ size + n * size = suc-mul n size ∙ add_comm (n * size) size in
     ap₂ ◌∷◌
-    (ap (sampleIn format) (take-take size (suc n * size) s (omega arith)))
-    (ap (samplesOf n format) (ap (λ (k : ℕ). drop size (take k s)) e ∙ drop-take size (n * size) s) ∙ samples-in-front n format (drop size s))
+    (ap (sample_in format) (take-take size (suc n * size) s (omega arith)))
+    (ap (samples_of n format) (ap (λ (k : ℕ). drop size (take k s)) e ∙ drop-take size (n * size) s) ∙ samples_in_front n format (drop size s))
 
 -- .. and so are n pieces
-pieces-in-front : (n size : ℕ) (s : List ℕ) → pieces_of n size (take (n * size) s) ≡ pieces_of n size s
+pieces_in_front : (n size : ℕ) (s : List ℕ) → pieces_of n size (take (n * size) s) ≡ pieces_of n size s
 unfolding pieces_of
-pieces-in-front zero size s = refl
-pieces-in-front (suc n) size s =
+pieces_in_front zero size s = refl
+pieces_in_front (suc n) size s =
     let e : suc n * size ≡ size + n * size = suc-mul n size ∙ add_comm (n * size) size in
     ap₂ ◌∷◌ (take-take size (suc n * size) s (omega arith))
-    (ap (pieces_of n size) (ap (λ (k : ℕ). drop size (take k s)) e ∙ drop-take size (n * size) s) ∙ pieces-in-front n size (drop size s))
+    (ap (pieces_of n size) (ap (λ (k : ℕ). drop size (take k s)) e ∙ drop-take size (n * size) s) ∙ pieces_in_front n size (drop size s))
 
 -- an answer of samples is no other
 clash : {n i : ℕ} → Samples n ≡ NotNumber i → ⊥
 clash e = let z : ◌≡◌ {A = ℕ} 0 1 = cc in omega arith
 
-not-tagged : (n : ℕ) → OneOf (1 ∷ 2 ∷ 3 ∷ []) (tag_of declared.the_type (Samples n)) → ⊥
-not-tagged n (inl t) = omega arith
-not-tagged n (inr (inl t)) = omega arith
-not-tagged n (inr (inr t)) = omega arith
+not_tagged : (n : ℕ) → OneOf (1 ∷ 2 ∷ 3 ∷ []) (tag_of declared.the_type (Samples n)) → ⊥
+not_tagged n (inl t) = omega arith
+not_tagged n (inr (inl t)) = omega arith
+not_tagged n (inr (inr t)) = omega arith
 
 module _ (format : Format) (s : List ℕ) (samples : List ℤ) (size k : ℕ) (is : size ≡ size_of format) (here : k ≡ min (length s / size) (length samples)) where
   some : 0 < size
   some = omega (arith, few_bytes format)
 
-  pub end-within : k * size ≤ length s
-  end-within =
+  pub end_within : k * size ≤ length s
+  end_within =
       let l : k * size ≤ length s / size * size = mul-le-mul_right size (omega arith) in
       omega (arith, div-add-mod' (length s) size)
 
-  pub part-fits : k ≤ length samples
-  part-fits = omega arith
+  pub part_fits : k ≤ length samples
+  part_fits = omega arith
 
-  bytes-long : length (take (k * size) s) ≡ k * size
-  bytes-long = length-take-le (k * size) s end-within
+  bytes_long : length (take (k * size) s) ≡ k * size
+  bytes_long = length-take-le (k * size) s end_within
 
-  samples-long : length (take k samples) ≡ k
-  samples-long = length-take-le k samples part-fits
+  samples_long : length (take k samples) ≡ k
+  samples_long = length-take-le k samples part_fits
 
   -- each of the samples that are wholly there is one
   abbrev good : Bool
-  good = allSamples k format s
+  good = all_samples k format s
 
-  there-is : k ≡ thereOf (length samples) format s
-  there-is = here ∙ ap (λ (j : ℕ). min (length s / j) (length samples)) is
+  there_is : k ≡ there_of (length samples) format s
+  there_is = here ∙ ap (λ (j : ℕ). min (length s / j) (length samples)) is
 
-  numbers-are : good ≡ numbersFrom (length samples) format s
-  unfolding numbersFrom
-  numbers-are = ap (λ (j : ℕ). allSamples j format s) there-is
+  numbers_are : good ≡ numbers_from (length samples) format s
+  unfolding numbers_from
+  numbers_are = ap (λ (j : ℕ). all_samples j format s) there_is
 
   -- the codec's answer where they all are, and where not
   abbrev outcome : Bool → Outcome Taken (List ℤ)
-  outcome true = record { result = Samples k; lent = samplesOf k format s }
-  outcome false = record { result = NotNumber (firstBad k format s); lent = take k samples }
+  outcome true = record { result = Samples k; lent = samples_of k format s }
+  outcome false = record { result = NotNumber (first_bad k format s); lent = take k samples }
 
   -- the codec judges them alone, and takes them if all are samples
-  decided : blockFrom (take (k * size) s) format (take k samples) ≡ outcome good
-  unfolding blockFrom decide
+  decided : block_from (take (k * size) s) format (take k samples) ≡ outcome good
+  unfolding block_from decide
   decided =
-      let rest : length (take (k * size) s) % size_of format ≡ 0 = ap₂ ◌%◌ bytes-long (sym is) ∙ mul-mod_left k size in
+      let rest : length (take (k * size) s) % size_of format ≡ 0 = ap₂ ◌%◌ bytes_long (sym is) ∙ mul-mod_left k size in
       let count : length (take k samples) ≡ length (take (k * size) s) / size_of format =
-      samples-long ∙ sym (ap₂ ◌/◌ bytes-long (sym is) ∙ mul-div_cancel k some) in
+      samples_long ∙ sym (ap₂ ◌/◌ bytes_long (sym is) ∙ mul-div_cancel k some) in
       let in_bytes : take (k * size) s ≡ take (k * size_of format) s = ap (λ (z : ℕ). take (k * z) s) is in
-      let bad : firstBad k format (take (k * size) s) ≡ firstBad k format s =
-      ap (firstFailing (isSampleIn format)) (ap (pieces_of k (size_of format)) in_bytes ∙ pieces-in-front k (size_of format) s) in
-      let own : samplesOf k format (take (k * size) s) ≡ samplesOf k format s = ap (samplesOf k format) in_bytes ∙ samples-in-front k format s in
+      let bad : first_bad k format (take (k * size) s) ≡ first_bad k format s =
+      ap (first_failing (is_sample_in format)) (ap (pieces_of k (size_of format)) in_bytes ∙ pieces_in_front k (size_of format) s) in
+      let own : samples_of k format (take (k * size) s) ≡ samples_of k format s = ap (samples_of k format) in_bytes ∙ samples_in_front k format s in
       rw (
         eq-eqb (length (take (k * size) s) % size_of format) 0 rest,
         eq-eqb (length (take k samples)) (length (take (k * size) s) / size_of format) count,
-        samples-long,
+        samples_long,
         bad,
         own,
       ) (pick good)
@@ -117,69 +117,69 @@ module _ (format : Format) (s : List ℕ) (samples : List ℤ) (size k : ℕ) (i
       pick true = refl
       pick false = refl
 
-  module _ (r : Taken) (last : List ℤ) (d : Done (blockFrom (take (k * size) s) format (take k samples)) r last) where
+  module _ (r : Taken) (last : List ℤ) (d : Done (block_from (take (k * size) s) format (take k samples)) r last) where
     -- it answered their number: all are samples
-    pub taken_yes : (n : ℕ) → r ≡ Samples n → (good ≡ true) × (last ≡ samplesOf k format s)
-    taken_yes n e = by good refl (d.result-is ∙ ap (λ (o : Outcome Taken (List ℤ)). o.result) decided) (d.lent_is ∙ ap (λ (o : Outcome Taken (List ℤ)). o.lent) decided)
+    pub taken_yes : (n : ℕ) → r ≡ Samples n → (good ≡ true) × (last ≡ samples_of k format s)
+    taken_yes n e = by good refl (d.result_is ∙ ap (λ (o : Outcome Taken (List ℤ)). o.result) decided) (d.lent_is ∙ ap (λ (o : Outcome Taken (List ℤ)). o.lent) decided)
       where
         by : (b : Bool) → good ≡ b →
             r ≡ (outcome b).result →
             last ≡ (outcome b).lent →
-            (good ≡ true) × (last ≡ samplesOf k format s)
+            (good ≡ true) × (last ≡ samples_of k format s)
         by true g p q = (g, q)
         by false g p q = absurd (clash (sym e ∙ p))
 
     -- it answered anything else: one is none, and nothing was changed
-    pub taken-no : OneOf (1 ∷ 2 ∷ 3 ∷ []) (tag_of declared.the_type r) → (good ≡ false) × (last ≡ take k samples)
-    taken-no t = by good refl (d.result-is ∙ ap (λ (o : Outcome Taken (List ℤ)). o.result) decided) (d.lent_is ∙ ap (λ (o : Outcome Taken (List ℤ)). o.lent) decided)
+    pub taken_no : OneOf (1 ∷ 2 ∷ 3 ∷ []) (tag_of declared.the_type r) → (good ≡ false) × (last ≡ take k samples)
+    taken_no t = by good refl (d.result_is ∙ ap (λ (o : Outcome Taken (List ℤ)). o.result) decided) (d.lent_is ∙ ap (λ (o : Outcome Taken (List ℤ)). o.lent) decided)
       where
         by : (b : Bool) → good ≡ b →
             r ≡ (outcome b).result →
             last ≡ (outcome b).lent →
             (good ≡ false) × (last ≡ take k samples)
         by false g p q = (g, q)
-        by true g p q = absurd (not-tagged k (subst (λ (x : Taken). OneOf (1 ∷ 2 ∷ 3 ∷ []) (tag_of declared.the_type x)) p t))
+        by true g p q = absurd (not_tagged k (subst (λ (x : Taken). OneOf (1 ∷ 2 ∷ 3 ∷ []) (tag_of declared.the_type x)) p t))
 
   -- a part put back as it was
-  pub not_taken : (last : List ℤ) → good ≡ false → last ≡ take k samples → Done (takenFrom s format samples) false (last ++ drop k samples)
-  unfolding takenFrom decide
+  pub not_taken : (last : List ℤ) → good ≡ false → last ≡ take k samples → Done (taken_from s format samples) false (last ++ drop k samples)
+  unfolding taken_from decide
   not_taken last g e =
-      rw (sym numbers-are ∙ g) (record { result-is = refl; lent_is = ap (λ (l : List ℤ). l ++ drop k samples) e ∙ take-append-drop k samples })
+      rw (sym numbers_are ∙ g) (record { result_is = refl; lent_is = ap (λ (l : List ℤ). l ++ drop k samples) e ∙ take-append-drop k samples })
 
-  pub all-taken : (after : List ℤ) → good ≡ true → after ≡ samplesFrom (length samples) format s → Done (takenFrom s format samples) true after
-  unfolding takenFrom decide
-  all-taken after g e = rw (sym numbers-are ∙ g) (record { result-is = refl; lent_is = e })
+  pub all_taken : (after : List ℤ) → good ≡ true → after ≡ samples_from (length samples) format s → Done (taken_from s format samples) true after
+  unfolding taken_from decide
+  all_taken after g e = rw (sym numbers_are ∙ g) (record { result_is = refl; lent_is = e })
 
   -- the code's list: the samples taken, and cleared places behind them
-  pub joined : (last cleared : List ℤ) → last ≡ samplesOf k format s →
+  pub joined : (last cleared : List ℤ) → last ≡ samples_of k format s →
       cleared ≡ replicate (length (take (length (last ++ drop k samples) - k) (drop k (last ++ drop k samples)))) (pos 0) →
-      put_mid k (length (last ++ drop k samples) - k) (last ++ drop k samples) cleared ≡ samplesFrom (length samples) format s
-  unfolding samplesFrom
+      put_mid k (length (last ++ drop k samples) - k) (last ++ drop k samples) cleared ≡ samples_from (length samples) format s
+  unfolding samples_from
   joined last cleared e z =
       let xs = last ++ drop k samples in
       let l : length last ≡ k = ap length e ∙ length-samples k format s in
       let d : drop k xs ≡ drop k samples = drop_at last (drop k samples) k l in
-      let long : length xs ≡ length samples = length-append last (drop k samples) ∙ (omega (arith, l, length-drop k samples, part-fits)) in
+      let long : length xs ≡ length samples = length-append last (drop k samples) ∙ (omega (arith, l, length-drop k samples, part_fits)) in
       let count : length (take (length xs - k) (drop k xs)) ≡ length samples - k =
       simp (length-take, length-drop) (omega (arith, long)) in
       let none : drop (length xs - k) (drop k xs) ≡ [] = drop_of_length-le (drop k xs) {i = length xs - k} (omega (arith, length-drop k xs)) in
-      let m : k ≡ min (length s / size_of format) (length samples) = there-is in
+      let m : k ≡ min (length s / size_of format) (length samples) = there_is in
       ap₂ ◌++◌ (take_at last (drop k samples) k l ∙ e) (ap₂ ◌++◌ (z ∙ ap (λ (n : ℕ). replicate n (pos 0)) count) none ∙ append-nil (replicate (length samples - k) (pos 0))) ∙
-      ap (λ (j : ℕ). samplesOf j format s ++ replicate (length samples - j) (pos 0)) m
+      ap (λ (j : ℕ). samples_of j format s ++ replicate (length samples - j) (pos 0)) m
 
 -- ---- what a caller learns
 
-module _ (s : List ℕ) (format : Format) (samples : List ℤ) (r : Bool) (after : List ℤ) (d : Done (takenFrom s format samples) r after) where
+module _ (s : List ℕ) (format : Format) (samples : List ℤ) (r : Bool) (after : List ℤ) (d : Done (taken_from s format samples) r after) where
   -- the answer is whether they are all numbers
-  pub taken-answer : r ≡ numbersFrom (length samples) format s
-  unfolding takenFrom decide
-  taken-answer = d.result-is ∙ by (numbersFrom (length samples) format s)
+  pub taken_answer_lem : r ≡ numbers_from (length samples) format s
+  unfolding taken_from decide
+  taken_answer_lem = d.result_is ∙ by (numbers_from (length samples) format s)
     where
-      by : (b : Bool) → (decide (check b false ∷ []) samples true (samplesFrom (length samples) format s)).result ≡ b
+      by : (b : Bool) → (decide (check b false ∷ []) samples true (samples_from (length samples) format s)).result ≡ b
       by true = refl
       by false = refl
 
   -- .. and if they are, they were taken
-  pub taken-samples : r ≡ true → after ≡ samplesFrom (length samples) format s
-  unfolding takenFrom decide
-  taken-samples e = d.lent_is ∙ rw (sym taken-answer ∙ e)
+  pub taken-samples : r ≡ true → after ≡ samples_from (length samples) format s
+  unfolding taken_from decide
+  taken-samples e = d.lent_is ∙ rw (sym taken_answer_lem ∙ e)

@@ -1,11 +1,11 @@
 -- How a run starts: 30 for the arguments, then the reader's refusals, then 26 for the length to be written.
 use Rattle.std.specs.Prelude.{cond, List, ℕ, ◌*◌, ◌/◌, eqb, ltb}
 use Rattle.answers.specs.Answer.{Answer, accepted, refused}
-use Rattle.answers.specs.Unit.{largestData}
+use Rattle.answers.specs.Unit.{largest_data}
 use Rattle.samples.specs.Channels.{count_of}
 use Rattle.samples.specs.declared.channels.Channels.{Channels}
 use Rattle.samples.specs.declared.format.Format.{Format}
-use Rattle.wave_values.specs.Values.{frameSize}
+use Rattle.wave_values.specs.Values.{frame_size}
 use Rattle.wave.specs.Walk.{Found, read_of}
 use Rattle.wave.specs.Walk as wave
 use Rattle.arguments.specs.declared.taking.Arguments.{Arguments}
@@ -32,16 +32,16 @@ number_of refusal.TooLong = 26
 number_of refusal.NotNumber = 41
 
 -- rule 10.6: the frames in the data, if a header can state the bytes that they are written in
-abbrev pub planFor : Found → Answer Plan
-planFor f =
+abbrev pub plan_for : Found → Answer Plan
+plan_for f =
     let count = count_of f.channels in
-    let frames = f.size / frameSize count f.format in
-    cond (ltb largestData (3 * (count * frames))) (refused 26 0)
+    let frames = f.size / frame_size count f.format in
+    cond (ltb largest_data (3 * (count * frames))) (refused 26 0)
     (accepted (record { rate = f.rate; format = f.format; channels = f.channels; frames = frames; start = f.start }))
 
 -- rule 10.5: then the reader's; then 26
 unfoldable pub plan_of : Answer Found → Answer Plan
-plan_of (accepted f) = planFor f
+plan_of (accepted f) = plan_for f
 plan_of (refused n p) = refused n p
 
 -- rules 10.3, 10.5: first 30: refused arguments, and any other number than eight
@@ -51,7 +51,7 @@ start_of (arguments.Taken n) front = cond (eqb n bands) (plan_of (read_of front)
 start_of arguments.Refused front = refused 30 0
 
 -- in the rule book's numbers
-abbrev pub startAnswer : Start → Answer Plan
-startAnswer (Run rate format channels frames start) =
+abbrev pub start_answer : Start → Answer Plan
+start_answer (Run rate format channels frames start) =
     accepted (record { rate = rate; format = format; channels = channels; frames = frames; start = start })
-startAnswer (Refused r) = refused (number_of r) 0
+start_answer (Refused r) = refused (number_of r) 0

@@ -1,6 +1,6 @@
 // The data bytes of a block to its samples.
 ghost use Rattle.answers.specs.Checks.{Done};
-ghost use Rattle.eqfile.specs.Data.{takenFrom};
+ghost use Rattle.eqfile.specs.Data.{taken_from};
 
 use samples::{Format, Taken};
 use whole::counts::least;
@@ -8,7 +8,7 @@ use whole::places::clear;
 
 // The samples of a block: each that is wholly there, then zeros. Answers whether each that is there is a number; if not, nothing is changed.
 pub fn samples_from(bytes: &[u8], format: Format, samples: &mut [i32]) -> bool
-    ensures { Done (takenFrom bytes.now format samples.old) result samples.new }
+    ensures { Done (taken_from bytes.now format samples.old) result samples.new }
 {
     let size = samples::bytes_each(format) as usize;
     let whole = least(bytes.len() / size, samples.len());

@@ -1,6 +1,6 @@
 // The data bytes that came with the front.
 ghost use Rattle.std.specs.Prelude.{◌≡◌, length};
-ghost use Rattle.eqfile.specs.Front.{carryOf};
+ghost use Rattle.eqfile.specs.Front.{carry_of};
 
 use whole::counts::{least, left};
 
@@ -17,7 +17,7 @@ fn copy(from: &[u8], to: &mut [u8])
 
 // Puts the data that the front holds from `from` on at the start of the block's bytes, and answers how many there are.
 pub fn carry(front: &[u8], from: usize, bytes: &mut [u8]) -> usize
-    ensures { (result, bytes.new) ≡ carryOf front.now from bytes.old }
+    ensures { (result, bytes.new) ≡ carry_of front.now from bytes.old }
 {
     let n = least(left(front.len(), from), bytes.len());
     if n == 0 {

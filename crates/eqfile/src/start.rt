@@ -1,7 +1,7 @@
 // How a run starts: the checks in their order.
 ghost use Rattle.std.specs.Prelude.{◌≡◌};
-ghost use Rattle.wave.specs.Walk.{readAnswer};
-ghost use Rattle.eqfile.specs.Start.{plan_of, start_of, startAnswer};
+ghost use Rattle.wave.specs.Walk.{read_answer};
+ghost use Rattle.eqfile.specs.Start.{plan_of, start_of, start_answer};
 
 use crate::refusal::Refusal;
 use answers::unit::LARGEST_DATA;
@@ -28,7 +28,7 @@ const MOST: u32 = LARGEST_DATA / 3;
 
 // An accepted header, if its frames can be written.
 fn plan(reading: Reading) -> Start
-    ensures { startAnswer result ≡ plan_of (readAnswer reading) }
+    ensures { start_answer result ≡ plan_of (read_answer reading) }
 {
     match reading {
         Reading::Accepted {
@@ -56,7 +56,7 @@ fn plan(reading: Reading) -> Start
 
 // The arguments, then the header, then the length to be written.
 pub fn begin(arguments: Arguments, front: &[u8]) -> Start
-    ensures { startAnswer result ≡ start_of arguments front.now }
+    ensures { start_answer result ≡ start_of arguments front.now }
 {
     let Arguments::Taken(n) = arguments else {
         return Start::Refused(Refusal::Arguments);

@@ -2,8 +2,8 @@
 ghost use Rattle.std.specs.Prelude.{◌≡◌, ◌*◌};
 ghost use Rattle.chunks.specs.Walk.{padding};
 ghost use Rattle.samples.specs.Channels.{count_of};
-ghost use Rattle.wave_values.specs.Values.{frameSize};
-ghost use Rattle.eqfile.specs.Turn.{fedInAll, allRead, wantedOf, turn_of, short_of};
+ghost use Rattle.wave_values.specs.Values.{frame_size};
+ghost use Rattle.eqfile.specs.Turn.{fed_in_all, all_read, wanted_of, turn_of, short_of};
 
 use answers::unit::TURN_LIMIT;
 use chunks::place::padding;
@@ -26,14 +26,14 @@ const LATE: usize = 1143;
 
 // How many frames are fed in all.
 pub fn fed_in_all(frames: u32) -> usize
-    ensures { result ≡ fedInAll frames }
+    ensures { result ≡ fed_in_all frames }
 {
     frames as usize + LATE
 }
 
 // Whether all bytes of the frames before `at` were read.
 fn all_read(format: Format, channels: Channels, frames: u32, at: usize, read: usize) -> bool
-    ensures { result ≡ allRead (frameSize (count_of channels) format) frames at read }
+    ensures { result ≡ all_read (frame_size (count_of channels) format) frames at read }
 {
     read == frame_size(channels, format) as usize * least(at, frames as usize)
 }
@@ -47,7 +47,7 @@ fn wanted(
     read: usize,
     fed: usize,
 ) -> usize
-    ensures { result ≡ wantedOf (frameSize (count_of channels) format) frames at read fed }
+    ensures { result ≡ wanted_of (frame_size (count_of channels) format) frames at read fed }
 {
     if !all_read(format, channels, frames, at, read) {
         return 0;
@@ -57,7 +57,7 @@ fn wanted(
 
 // The turn after `at` frames were fed and `read` bytes of data were read.
 pub fn next_turn(format: Format, channels: Channels, frames: u32, at: usize, read: usize) -> Turn
-    ensures { result ≡ turn_of (count_of channels) (frameSize (count_of channels) format) frames at read }
+    ensures { result ≡ turn_of (count_of channels) (frame_size (count_of channels) format) frames at read }
 {
     let count = channel_count(channels) as usize;
     let fed = least(TURN_LIMIT, left(fed_in_all(frames), at));
@@ -72,7 +72,7 @@ pub fn next_turn(format: Format, channels: Channels, frames: u32, at: usize, rea
 
 // How many bytes of data are missing after `read` bytes.
 pub fn short(format: Format, channels: Channels, frames: u32, read: usize) -> usize
-    ensures { result ≡ short_of (frameSize (count_of channels) format) frames read }
+    ensures { result ≡ short_of (frame_size (count_of channels) format) frames read }
 {
     left(
         frame_size(channels, format) as usize * frames as usize,

@@ -10,19 +10,19 @@ use lib.IntN.{ℤ, pos, ◌+ℤ◌, ◌*ℤ◌, +ℤ_idr, +ℤ_comm, *ℤ-zero, 
 use Rattle.answers.specs.Unit.{unity}
 use Rattle.whole.specs.Nearest.{nearest}
 use Rattle.whole.specs.Sum.{sum}
-use Rattle.whole.proofs.Signed.{var, lit, ◌⊗◌, eq-by}
+use Rattle.whole.proofs.Signed.{var, lit, ◌⊗◌, eq_by}
 use Rattle.whole.proofs.Nearest.{nearest-exact}
 use Rattle.whole.proofs.Sums.{sum-ext, sum-+, sum-*}
 use Rattle.tree.specs.Prototype.{Prototype}
 use Rattle.tree.specs.Signal.{Signal, back}
-use Rattle.tree.specs.Tree.{line, delay, heldBack, gainSum}
-use Rattle.tree.proofs.EqualGains.{equal-gain-sum}
+use Rattle.tree.specs.Tree.{line, delay, held_back, gain_sum}
+use Rattle.tree.proofs.EqualGains.{equal_gain_sum}
 use Rattle.crossover.specs.Feeds.{Feed, bass, horn, goes}
 
 module _ (p : Prototype) (M k : ℕ) (x : Signal) (n : ℕ) where
   -- band i + 1, held back, as far as it goes to a feed
   abbrev share : Feed → ℕ → ℤ
-  share f i = cond (goes f k (suc i)) (heldBack p M (line p M x) (suc i) n) (pos 0)
+  share f i = cond (goes f k (suc i)) (held_back p M (line p M x) (suc i) n) (pos 0)
 
   -- ---- one feed
 
@@ -31,14 +31,14 @@ module _ (p : Prototype) (M k : ℕ) (x : Signal) (n : ℕ) where
   out_of false u z = zero-*ℤ z ∙ sym (*ℤ-zero u)
 
   -- gains 4,096 at a feed's bands and 0 elsewhere: its rounded sum is the sum of its bands, exactly
-  pub rounded-part : (f : Feed) (g : ℕ → ℕ → ℤ) → ((m : ℕ) → 1 ≤ m → m ≤ M → g n m ≡ cond (goes f k m) (pos unity) (pos 0)) →
-      nearest unity (gainSum p M g (line p M x) n) ≡ sum M (share f)
-  unfolding gainSum
-  rounded-part f g e =
+  pub rounded_part : (f : Feed) (g : ℕ → ℕ → ℤ) → ((m : ℕ) → 1 ≤ m → m ≤ M → g n m ≡ cond (goes f k m) (pos unity) (pos 0)) →
+      nearest unity (gain_sum p M g (line p M x) n) ≡ sum M (share f)
+  unfolding gain_sum
+  rounded_part f g e =
       ap (nearest unity)
       (sum-ext M
-      (λ i h. ap (λ (z : ℤ). z *ℤ heldBack p M (line p M x) (suc i) n) (e (suc i) (omega arith) (omega arith)) ∙
-      out_of (goes f k (suc i)) (pos unity) (heldBack p M (line p M x) (suc i) n)) ∙
+      (λ i h. ap (λ (z : ℤ). z *ℤ held_back p M (line p M x) (suc i) n) (e (suc i) (omega arith) (omega arith)) ∙
+      out_of (goes f k (suc i)) (pos unity) (held_back p M (line p M x) (suc i) n)) ∙
       sum-* M (pos unity) (share f)) ∙
       nearest-exact unity (omega arith) (sum M (share f))
 
@@ -52,13 +52,13 @@ module _ (p : Prototype) (M k : ℕ) (x : Signal) (n : ℕ) where
       by (yes h) = rw (lt-leb m k h, lt-ltb k m h) (+ℤ_comm (pos 0) z ∙ +ℤ_idr z)
       by (no h) = rw (le-leb m k (omega arith), le-ltb k m (omega arith)) (+ℤ_idr z)
 
-  pub parts-add-up : 1 ≤ M → sum M (share bass) +ℤ sum M (share horn) ≡ back x n (delay p M)
-  unfolding gainSum
-  parts-add-up some =
+  pub parts_add_up : 1 ≤ M → sum M (share bass) +ℤ sum M (share horn) ≡ back x n (delay p M)
+  unfolding gain_sum
+  parts_add_up some =
       let late = back x n (delay p M) in
       sym (sum-+ M (share bass) (share horn)) ∙
-      sum-ext M (λ i _. either (suc i) (heldBack p M (line p M x) (suc i) n) ∙ sym (one-times (heldBack p M (line p M x) (suc i) n))) ∙
-      equal-gain-sum p M (pos 1) (λ _ _. pos 1) x n some (λ m _ _. refl) ∙ one-times late
+      sum-ext M (λ i _. either (suc i) (held_back p M (line p M x) (suc i) n) ∙ sym (one_times (held_back p M (line p M x) (suc i) n))) ∙
+      equal_gain_sum p M (pos 1) (λ _ _. pos 1) x n some (λ m _ _. refl) ∙ one_times late
     where
-      one-times : (z : ℤ) → pos 1 *ℤ z ≡ z
-      one-times z = eq-by (lit 1 ⊗ var z) (var z) (omega arith)
+      one_times : (z : ℤ) → pos 1 *ℤ z ≡ z
+      one_times z = eq_by (lit 1 ⊗ var z) (var z) (omega arith)

@@ -4,16 +4,16 @@ use Rattle.answers.specs.Answer.{Answer, accepted, number_in}
 use Rattle.answers.specs.Checks.{Outcome}
 use Rattle.frames.specs.Frames.{side_of}
 use Rattle.tree.specs.Prototype.{published}
-use Rattle.tree.specs.Signal.{Signal, signalOf, gainOf}
-use Rattle.tree.specs.Exact.{exactOutput}
-use Rattle.octave.specs.Answer.{blockAnswer}
+use Rattle.tree.specs.Signal.{Signal, signal_of, gain_of}
+use Rattle.tree.specs.Exact.{exact_output}
+use Rattle.octave.specs.Answer.{block_answer}
 use Rattle.octave.specs.Memory.{prepared}
-use Rattle.octave.specs.Block.{framesOf}
-use Rattle.history.specs.History.{Call, called, Played, joined, carried, sideCalls}
+use Rattle.octave.specs.Block.{frames_of}
+use Rattle.history.specs.History.{Call, called, Played, joined, carried, side_calls}
 use Rattle.crossover.specs.declared.cross.Crossed.{Crossed}
-use Rattle.crossover.specs.Answer.{crossAnswer}
-use Rattle.crossover.specs.Feeds.{Feed, bass, horn, goes, feedGains}
-use Rattle.crossover.specs.Cross.{splitAllowed, cross_of}
+use Rattle.crossover.specs.Answer.{cross_answer}
+use Rattle.crossover.specs.Feeds.{Feed, bass, horn, goes, feed_gains}
+use Rattle.crossover.specs.Cross.{split_allowed, cross_of}
 
 -- ---- the calls
 
@@ -34,48 +34,48 @@ abbrev pub crossing : List ℤ → Crossing → Outcome Crossed (List ℤ × Lis
 crossing m x = cross_of m x.gains x.split x.input (x.before bass) (x.before horn)
 
 -- rule 16.3: the places of a feed, among memory, bass and horn
-abbrev pub placesIn : Feed → List ℤ × List ℤ × List ℤ → List ℤ
-placesIn bass lent = lent.1
-placesIn horn lent = lent.2
+abbrev pub places_in : Feed → List ℤ × List ℤ × List ℤ → List ℤ
+places_in bass lent = lent.1
+places_in horn lent = lent.2
 
 -- rule 6.8: what a call answers
 abbrev pub answered : List ℤ → AnyCall → Answer ℕ
-answered m (plain c) = blockAnswer (called m c).result
-answered m (cross x) = crossAnswer (crossing m x).result
+answered m (plain c) = block_answer (called m c).result
+answered m (cross x) = cross_answer (crossing m x).result
 
 -- rules 6.4, 16.3: the memory after it
-abbrev pub afterAny : List ℤ → AnyCall → List ℤ
-afterAny m (plain c) = (called m c).lent.0
-afterAny m (cross x) = (crossing m x).lent.0
+abbrev pub after_any : List ℤ → AnyCall → List ℤ
+after_any m (plain c) = (called m c).lent.0
+after_any m (cross x) = (crossing m x).lent.0
 
 -- rules 16.3, 16.7: what a feed's places hold after it; the one output of a plain call stands in both feeds
-abbrev pub fedBy : Feed → List ℤ → AnyCall → List ℤ
-fedBy f m (plain c) = (called m c).lent.1
-fedBy f m (cross x) = placesIn f (crossing m x).lent
+abbrev pub fed_by : Feed → List ℤ → AnyCall → List ℤ
+fed_by f m (plain c) = (called m c).lent.1
+fed_by f m (cross x) = places_in f (crossing m x).lent
 
 -- ---- calls as plain ones
 
 -- rules 16.3, 16.7: a call as a plain one with its own gains
-abbrev pub asPlain : AnyCall → Call
-asPlain (plain c) = c
-asPlain (cross x) = record { gains = x.gains; input = x.input; before = x.before bass }
+abbrev pub as_plain : AnyCall → Call
+as_plain (plain c) = c
+as_plain (cross x) = record { gains = x.gains; input = x.input; before = x.before bass }
 
 -- rule 16.4: as one feed sees it: the gains of the other feed's bands read 0
-abbrev pub asFeed : Feed → AnyCall → Call
-asFeed f (plain c) = c
-asFeed f (cross x) = record { gains = feedGains f (nat_abs x.split) x.gains; input = x.input; before = x.before f }
+abbrev pub as_feed : Feed → AnyCall → Call
+as_feed f (plain c) = c
+as_feed f (cross x) = record { gains = feed_gains f (nat_abs x.split) x.gains; input = x.input; before = x.before f }
 
 -- rules 16.3, 16.7: calls as plain ones
-abbrev pub plainCalls : List AnyCall → List Call
-plainCalls xs = map asPlain xs
+abbrev pub plain_calls : List AnyCall → List Call
+plain_calls xs = map as_plain xs
 
 -- rule 16.4: .. as one feed sees them
-abbrev pub feedCalls : Feed → List AnyCall → List Call
-feedCalls f xs = map (asFeed f) xs
+abbrev pub feed_calls : Feed → List AnyCall → List Call
+feed_calls f xs = map (as_feed f) xs
 
 -- rule 16.7: the samples of calls, joined
 abbrev pub samples : List AnyCall → List ℤ
-samples xs = joined (plainCalls xs)
+samples xs = joined (plain_calls xs)
 
 -- ---- runs
 
@@ -87,48 +87,48 @@ taken m a = eqb (number_in (answered m a)) 0
 unfoldable pub mixed : Feed → List ℤ → List AnyCall → Played
 mixed f m [] = record { memory = m; output = [] }
 mixed f m (a ∷ xs) =
-    let rest = mixed f (afterAny m a) xs in
-    record { memory = rest.memory; output = cond (taken m a) (fedBy f m a ++ rest.output) rest.output }
+    let rest = mixed f (after_any m a) xs in
+    record { memory = rest.memory; output = cond (taken m a) (fed_by f m a ++ rest.output) rest.output }
 
 -- rule 16.7: every call is accepted, with the number of its frames
 unfoldable pub AllTaken : List ℤ → List AnyCall → Type 0
 AllTaken m [] = Unit {0}
-AllTaken m (a ∷ xs) = (answered m a ≡ accepted (framesOf m (asPlain a).input)) × AllTaken (afterAny m a) xs
+AllTaken m (a ∷ xs) = (answered m a ≡ accepted (frames_of m (as_plain a).input)) × AllTaken (after_any m a) xs
 
 -- rules 11.4, 16.7: the accepted ones among some calls, in their order
 unfoldable pub taken_of : List ℤ → List AnyCall → List AnyCall
 taken_of m [] = []
-taken_of m (a ∷ xs) = cond (taken m a) (a ∷ taken_of (afterAny m a) xs) (taken_of (afterAny m a) xs)
+taken_of m (a ∷ xs) = cond (taken m a) (a ∷ taken_of (after_any m a) xs) (taken_of (after_any m a) xs)
 
 -- rules 3.10, 16.7: the call a carried frame n of some calls of so many channels
 pub data Carries (channels : ℕ) (a : AnyCall) : ℕ → List AnyCall → Type 0 where
-  here : {n : ℕ} {xs : List AnyCall} → n < length (asPlain a).input / channels → Carries channels a n (a ∷ xs)
-  later : {n : ℕ} {b : AnyCall} {xs : List AnyCall} → Carries channels a n xs → Carries channels a (length (asPlain b).input / channels + n) (b ∷ xs)
+  here : {n : ℕ} {xs : List AnyCall} → n < length (as_plain a).input / channels → Carries channels a n (a ∷ xs)
+  later : {n : ℕ} {b : AnyCall} {xs : List AnyCall} → Carries channels a n xs → Carries channels a (length (as_plain b).input / channels + n) (b ∷ xs)
 
 -- rule 16.7: what a feed was written on side s for frame n of calls from prepared memory
-abbrev pub fedOn : Feed → (M channels s : ℕ) → List AnyCall → ℕ → ℤ
-fedOn f M c s xs n = get_or (mixed f (prepared M c) xs).output (c * n + s) (pos 0)
+abbrev pub fed_on : Feed → (M channels s : ℕ) → List AnyCall → ℕ → ℤ
+fed_on f M c s xs n = get_or (mixed f (prepared M c) xs).output (c * n + s) (pos 0)
 
 -- ---- one feed as the equaliser
 
 -- rules 3.10, 16.4: the gains of a feed for frame n of side s: g n m for band m
-abbrev pub feedGain : Feed → (channels s : ℕ) → List AnyCall → ℕ → ℕ → ℤ
-feedGain f c s xs = carried (sideCalls c s (feedCalls f xs))
+abbrev pub feed_gain : Feed → (channels s : ℕ) → List AnyCall → ℕ → ℕ → ℤ
+feed_gain f c s xs = carried (side_calls c s (feed_calls f xs))
 
 -- rules 1.11, 3.1: the samples of side s as a signal
 abbrev pub heard : (channels s : ℕ) → List AnyCall → Signal
-heard c s xs = signalOf (side_of c s (samples xs))
+heard c s xs = signal_of (side_of c s (samples xs))
 
 -- rules 4.5, 16.4: 4,096·P times the exact output of a feed on side s for frame n
-abbrev pub exactOn : Feed → (M channels s : ℕ) → List AnyCall → ℕ → ℤ
-exactOn f M c s xs n = exactOutput published M (feedGain f c s xs) (heard c s xs) n
+abbrev pub exact_on : Feed → (M channels s : ℕ) → List AnyCall → ℕ → ℤ
+exact_on f M c s xs n = exact_output published M (feed_gain f c s xs) (heard c s xs) n
 
 -- ---- crossover calls where plain ones stood
 
 -- rules 16.1, 16.3: all that a crossover call asks beyond the plain one: an allowed split, and places of each feed for the input
 abbrev pub Ready : (M : ℕ) → AnyCall → Type 0
 Ready M (plain c) = Unit {0}
-Ready M (cross x) = (splitAllowed M x.split ≡ true) × ((f : Feed) → length (x.before f) ≡ length x.input)
+Ready M (cross x) = (split_allowed M x.split ≡ true) × ((f : Feed) → length (x.before f) ≡ length x.input)
 
 -- rule 16.7: of each call
 unfoldable pub AllReady : (M : ℕ) → List AnyCall → Type 0
@@ -139,8 +139,8 @@ AllReady M (a ∷ xs) = Ready M a × AllReady M xs
 
 -- rule 16.6: gains that agree at the bands of a feed
 abbrev pub SameBands : Feed → (s : ℕ) → (gains others : List ℤ) → Type 0
-SameBands f s gains others = (m : ℕ) → 1 ≤ m → goes f s m ≡ true → gainOf gains m ≡ gainOf others m
+SameBands f s gains others = (m : ℕ) → 1 ≤ m → goes f s m ≡ true → gain_of gains m ≡ gain_of others m
 
 -- rule 16.6: what a feed reads of calls: the samples of each, and its gains with those of the other feed's bands at 0
 abbrev pub read_by : Feed → List AnyCall → List (List ℤ × List ℤ)
-read_by f xs = map (λ (c : Call). (c.gains, c.input)) (feedCalls f xs)
+read_by f xs = map (λ (c : Call). (c.gains, c.input)) (feed_calls f xs)

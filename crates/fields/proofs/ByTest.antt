@@ -22,13 +22,13 @@ cond-case P x y false f g = g refl
 
 -- ---- for search: a conjunction test by test, a pick by its test
 
-pub and-stops : (a b : Bool) → a ≡ false → false ≡ (a && b)
-and-stops a b e = rw e
+pub and_stops : (a b : Bool) → a ≡ false → false ≡ (a && b)
+and_stops a b e = rw e
 
-pub and-goes : (a b r : Bool) → a ≡ true → r ≡ b → r ≡ (a && b)
-and-goes a b r e d = rw e d
+pub and_goes : (a b r : Bool) → a ≡ true → r ≡ b → r ≡ (a && b)
+and_goes a b r e d = rw e d
 
-pub ruleset anding = (and-stops, and-goes, branches)
+pub ruleset anding = (and_stops, and_goes, branches)
 
 module _ (A : Type 0) (r x y : A) where
   pub picks_first : (t : Bool) → t ≡ true → r ≡ x → r ≡ cond t x y
@@ -39,11 +39,11 @@ module _ (A : Type 0) (r x y : A) where
 
 -- tests of numbers that a call answered
 module _ (a b k : ℕ) (e : k ≡ a) where
-  pub answered-is : k ≡ b → eqb a b ≡ true
-  answered-is d = eq-eqb a b (sym e ∙ d)
+  pub answered_is : k ≡ b → eqb a b ≡ true
+  answered_is d = eq-eqb a b (sym e ∙ d)
 
-  pub answered-not : (k ≡ b → ⊥) → eqb a b ≡ false
-  answered-not n = ne_eqb a b (λ d. n (e ∙ d))
+  pub answered_not : (k ≡ b → ⊥) → eqb a b ≡ false
+  answered_not n = ne_eqb a b (λ d. n (e ∙ d))
 
 -- .. and of a division by one
 module _ (m n size k : ℕ) (e : k ≡ size) where
@@ -53,12 +53,12 @@ module _ (m n size k : ℕ) (e : k ≡ size) where
   pub whole : n % k ≡ 0 → eqb (n % size) 0 ≡ true
   whole h = rw (sym e) (eq-eqb (n % k) 0 h)
 
-  pub other-number : (m ≡ n / k → ⊥) → eqb m (n / size) ≡ false
-  other-number h = rw (sym e) (ne_eqb m (n / k) h)
+  pub other_number : (m ≡ n / k → ⊥) → eqb m (n / size) ≡ false
+  other_number h = rw (sym e) (ne_eqb m (n / k) h)
 
   pub same_number : m ≡ n / k → eqb m (n / size) ≡ true
   same_number h = rw (sym e) (eq-eqb m (n / k) h)
 
-pub ruleset dividing = (part, whole, other-number, same_number)
+pub ruleset dividing = (part, whole, other_number, same_number)
 
 pub ruleset picking = (picks_first, picks_second, branches)

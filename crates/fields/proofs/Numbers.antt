@@ -13,14 +13,14 @@ use Rattle.fields.specs.Bytes.{Bytes, number, little}
 pub no_bytes : Bytes []
 no_bytes i = omega arith
 
-pub bytes-cons : (b : ℕ) (s : List ℕ) → b < 256 → Bytes s → Bytes (b ∷ s)
-bytes-cons b s h rest zero = h
-bytes-cons b s h rest (suc i) = rest i
+pub bytes_cons : (b : ℕ) (s : List ℕ) → b < 256 → Bytes s → Bytes (b ∷ s)
+bytes_cons b s h rest zero = h
+bytes_cons b s h rest (suc i) = rest i
 
 pub bytes_take : (n : ℕ) (s : List ℕ) → Bytes s → Bytes (take n s)
 bytes_take zero s bytes = no_bytes
 bytes_take (suc n) [] bytes = no_bytes
-bytes_take (suc n) (b ∷ s) bytes = bytes-cons b (take n s) (bytes 0) (bytes_take n s (λ i. bytes (suc i)))
+bytes_take (suc n) (b ∷ s) bytes = bytes_cons b (take n s) (bytes 0) (bytes_take n s (λ i. bytes (suc i)))
 
 pub bytes_drop : (n : ℕ) (s : List ℕ) → Bytes s → Bytes (drop n s)
 bytes_drop n s bytes i = rw (get_or-drop n s i 0) (bytes (n + i))
@@ -30,8 +30,8 @@ bytes_drop n s bytes i = rw (get_or-drop n s i 0) (bytes (n + i))
 pow_more : (k : ℕ) → 256 ^ suc k ≡ 256 * 256 ^ k
 pow_more k = pow-succ' 256 k
 
-pub pow-positive : (k : ℕ) → 0 < 256 ^ k
-pow-positive k = one-le-pow k 256 (omega arith)
+pub pow_positive : (k : ℕ) → 0 < 256 ^ k
+pow_positive k = one-le-pow k 256 (omega arith)
 
 -- ---- a number's bytes
 
@@ -61,7 +61,7 @@ little-number (b ∷ s) bytes =
 
 pub number-below : (s : List ℕ) → Bytes s → number s < 256 ^ length s
 unfolding number
-number-below [] bytes = pow-positive 0
+number-below [] bytes = pow_positive 0
 number-below (b ∷ s) bytes =
     let l : b < 256 = bytes 0 in
     let rest : number s < 256 ^ length s = number-below s (λ i. bytes (suc i)) in
@@ -84,8 +84,8 @@ module _ (m n : ℕ) (positive : 0 < m) where
   low_byte : n % (256 * m) % 256 ≡ n % 256
   low_byte = let e = split in omega arith
 
-  rest-low : n % (256 * m) / 256 ≡ n / 256 % m
-  rest-low =
+  rest_low : n % (256 * m) / 256 ≡ n / 256 % m
+  rest_low =
       let e = split in
       let r = n % (256 * m) in
       let q = n / (256 * m) in
@@ -93,10 +93,10 @@ module _ (m n : ℕ) (positive : 0 < m) where
       let over : n / 256 ≡ r / 256 + m * q = omega arith in
       sym (ap (λ (k : ℕ). k % m) over ∙ add-mul-mod_self_left (r / 256) m q ∙ mod-eq_of_lt (omega arith))
 
-pub little-parts : (j k n : ℕ) → little (j + k) n ≡ little j (n % 256 ^ j) ++ little k (n / 256 ^ j)
+pub little_parts : (j k n : ℕ) → little (j + k) n ≡ little j (n % 256 ^ j) ++ little k (n / 256 ^ j)
 unfolding little
-little-parts zero k n = rw (zero-add k, div-one n)
-little-parts (suc j) k n =
-    let p = pow-positive j in
-    rw (suc-add j k, pow_more j, low_byte (256 ^ j) n p, rest-low (256 ^ j) n p, sym (div-div-eq-div-mul n 256 (256 ^ j)))
-    (ap (λ (t : List ℕ). n % 256 ∷ t) (little-parts j k (n / 256)))
+little_parts zero k n = rw (zero-add k, div-one n)
+little_parts (suc j) k n =
+    let p = pow_positive j in
+    rw (suc-add j k, pow_more j, low_byte (256 ^ j) n p, rest_low (256 ^ j) n p, sym (div-div-eq-div-mul n 256 (256 ^ j)))
+    (ap (λ (t : List ℕ). n % 256 ∷ t) (little_parts j k (n / 256)))

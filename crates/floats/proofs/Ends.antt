@@ -5,27 +5,27 @@ use Prim.Native.Nat.{ℕ, ◌≤◌}
 use native.Mathlib.Omega.{arith}
 use borrow.Author.Tests.{lt-ltb, le-ltb}
 use lib.IntN.{pos, neg_ℤ}
-use Rattle.answers.specs.Unit.{leastSample, mostSample}
+use Rattle.answers.specs.Unit.{least_sample, most_sample}
 use Rattle.whole.specs.Limit.{limit}
-use Rattle.whole.proofs.Limit.{limit-id, limit-cases}
-use Rattle.whole.proofs.Signed.{lit, neg, var, eq-by, le-by, le_of, lt_of}
+use Rattle.whole.proofs.Limit.{limit_id, limit_cases}
+use Rattle.whole.proofs.Signed.{lit, neg, var, eq_by, le_by, le_of, lt_of}
 use Rattle.floats.specs.Value.{signed}
 use Rattle.floats.specs.Exponent.{end_of}
 
 -- 2 ^ 23 and more, either way, goes to that end
-pub limit-far : (s : Bool) (n : ℕ) → 8388608 ≤ n → limit leastSample mostSample (signed s n) ≡ end_of s
-limit-far false n h = rw (lt-ltb 8388607 n (omega arith)) refl
-limit-far true n h =
-    limit-cases leastSample mostSample (neg_ℤ (pos n)) (λ z. z ≡ leastSample) (λ _. refl)
-    (λ a. absurd (omega (arith, lt_of (var mostSample) (neg (lit n)) a)))
-    (λ l _. eq-by (neg (lit n)) (var leastSample) (omega (arith, le_of (var leastSample) (neg (lit n)) l)))
+pub limit_far : (s : Bool) (n : ℕ) → 8388608 ≤ n → limit least_sample most_sample (signed s n) ≡ end_of s
+limit_far false n h = rw (lt-ltb 8388607 n (omega arith)) refl
+limit_far true n h =
+    limit_cases least_sample most_sample (neg_ℤ (pos n)) (λ z. z ≡ least_sample) (λ _. refl)
+    (λ a. absurd (omega (arith, lt_of (var most_sample) (neg (lit n)) a)))
+    (λ l _. eq_by (neg (lit n)) (var least_sample) (omega (arith, le_of (var least_sample) (neg (lit n)) l)))
 
 -- up to 2 ^ 23 a negative number is not moved
-pub limit-negative : (n : ℕ) → n ≤ 8388608 → limit leastSample mostSample (neg_ℤ (pos n)) ≡ neg_ℤ (pos n)
+pub limit-negative : (n : ℕ) → n ≤ 8388608 → limit least_sample most_sample (neg_ℤ (pos n)) ≡ neg_ℤ (pos n)
 limit-negative n h =
-    limit-id leastSample mostSample (neg_ℤ (pos n)) (le-by (var leastSample) (neg (lit n)) (omega arith))
-    (le-by (neg (lit n)) (var mostSample) (omega arith))
+    limit_id least_sample most_sample (neg_ℤ (pos n)) (le_by (var least_sample) (neg (lit n)) (omega arith))
+    (le_by (neg (lit n)) (var most_sample) (omega arith))
 
 -- up to 2 ^ 23 - 1 a positive one is not moved
-pub limit-positive : (n : ℕ) → n ≤ 8388607 → limit leastSample mostSample (pos n) ≡ pos n
-limit-positive n h = rw (le-ltb 8388607 n h) refl
+pub limit_positive : (n : ℕ) → n ≤ 8388607 → limit least_sample most_sample (pos n) ≡ pos n
+limit_positive n h = rw (le-ltb 8388607 n h) refl

@@ -7,15 +7,15 @@ use lib.IntN.{ℤ}
 use lib.Ieee.{Float, nan, inf, fin, up, down}
 use lib.Ieee.Bits.{is_true}
 use lib.Signed.{lt_z, le_z}
-use Rattle.answers.specs.First.{firstFailing}
-use Rattle.answers.specs.Range.{within, allWithin}
-use Rattle.answers.specs.Unit.{leastSample, mostSample}
-use Rattle.answers.proofs.Ranges.{cons-all}
+use Rattle.answers.specs.First.{first_failing}
+use Rattle.answers.specs.Range.{within, all_within}
+use Rattle.answers.specs.Unit.{least_sample, most_sample}
+use Rattle.answers.proofs.Ranges.{cons_all}
 use Rattle.whole.specs.Limit.{limit}
 use Rattle.whole.specs.Nearest.{nearest}
-use Rattle.whole.proofs.Signed.{var, le-by, lt_z_no}
-use Rattle.floats.specs.Value.{signed, fullScale, floatSample}
-use Rattle.floats.specs.Block.{sampleOr0, samplesOf}
+use Rattle.whole.proofs.Signed.{var, le_by, lt_z_no}
+use Rattle.floats.specs.Value.{signed, full_scale, float_sample}
+use Rattle.floats.specs.Block.{sample_or0, samples_of}
 use Rattle.floats.specs.declared.code.FloatSample.TheVariants.{Is}
 
 -- a limited number is within the limits, where the limits themselves are
@@ -24,25 +24,25 @@ within-limit lo hi z l h = outer (lt_z z lo) refl
   where
     inner : (t : Bool) → lt_z hi z ≡ t → lt_z z lo ≡ false → within lo hi (cond t hi z) ≡ true
     inner true e d = h
-    inner false e d = rw d (is_true (le_z z hi) (le-by (var z) (var hi) (lt_z_no hi z e)).le)
+    inner false e d = rw d (is_true (le_z z hi) (le_by (var z) (var hi) (lt_z_no hi z e)).le)
 
     outer : (t : Bool) → lt_z z lo ≡ t → within lo hi (cond t lo (cond (lt_z hi z) hi z)) ≡ true
     outer true e = l
     outer false e = inner (lt_z hi z) refl e
 
 -- 0 where there is no sample
-pub float-within : (x : Float) → within leastSample mostSample (sampleOr0 (floatSample x)) ≡ true
-unfolding floatSample
-float-within nan = refl
-float-within (inf s) = refl
-float-within (fin s m e) = within-limit leastSample mostSample (nearest (down e) (signed s (fullScale * (m * up e)))) refl refl
+pub float_within : (x : Float) → within least_sample most_sample (sample_or0 (float_sample x)) ≡ true
+unfolding float_sample
+float_within nan = refl
+float_within (inf s) = refl
+float_within (fin s m e) = within-limit least_sample most_sample (nearest (down e) (signed s (full_scale * (m * up e)))) refl refl
 
 -- the sample that a call answers
-pub sample-within : (x : Float) (z : ℤ) → floatSample x ≡ Is z → within leastSample mostSample z ≡ true
-sample-within x z e = rw (ap sampleOr0 e) at (float-within x)
+pub sample_within : (x : Float) (z : ℤ) → float_sample x ≡ Is z → within least_sample most_sample z ≡ true
+sample_within x z e = rw (ap sample_or0 e) at (float_within x)
 
 -- .. of a block
-pub floats-within : (values : List Float) → allWithin leastSample mostSample (samplesOf values) ≡ true
-unfolding firstFailing
-floats-within [] = refl
-floats-within (x ∷ values) = cons-all leastSample mostSample (sampleOr0 (floatSample x)) (samplesOf values) (float-within x) (floats-within values)
+pub floats_within : (values : List Float) → all_within least_sample most_sample (samples_of values) ≡ true
+unfolding first_failing
+floats_within [] = refl
+floats_within (x ∷ values) = cons_all least_sample most_sample (sample_or0 (float_sample x)) (samples_of values) (float_within x) (floats_within values)

@@ -4,17 +4,17 @@ use mathlib.Core.Bool.{true, false, not, false≢true}
 use lib.Dec.{T}
 use lib.Ieee.{Float, nan, inf, fin, ne, is_nan}
 use lib.Ieee.Compare.{differs_from_itself, nan_differs}
-use Rattle.floats.specs.Value.{floatSample}
+use Rattle.floats.specs.Value.{float_sample}
 use Rattle.floats.specs.declared.code.FloatSample.TheVariants.{NotNumber}
 
 -- what differs from itself is no sample
-pub differs_none : (x : Float) → ne x x ≡ true → NotNumber ≡ floatSample x
-unfolding floatSample
+pub differs_none : (x : Float) → ne x x ≡ true → NotNumber ≡ float_sample x
+unfolding float_sample
 differs_none x e = rw (differs_from_itself x (subst T (sym e) tt))
 
 -- what does not is no NaN
-pub same-no-nan : (x : Float) → ne x x ≡ false → T (not (is_nan x))
+pub same_no_nan : (x : Float) → ne x x ≡ false → T (not (is_nan x))
 unfolding is_nan
-same-no-nan nan e = absurd (false≢true (sym e ∙ nan_differs))
-same-no-nan (inf s) e = tt
-same-no-nan (fin s m k) e = tt
+same_no_nan nan e = absurd (false≢true (sym e ∙ nan_differs))
+same_no_nan (inf s) e = tt
+same_no_nan (fin s m k) e = tt

@@ -8,9 +8,9 @@ use lib.Ieee.{Float}
 use lib.Dec.{eqb}
 use Rattle.answers.specs.Answer.{Answer, accepted, refused}
 use Rattle.answers.specs.Checks.{Done}
-use Rattle.answers.proofs.Laws.{one-case, one_answer}
-use Rattle.floats.specs.Value.{floatSample, floatAnswer, toFloat, floatedAnswer}
-use Rattle.floats.specs.Block.{fromFloats, floatBlockAnswer}
+use Rattle.answers.proofs.Laws.{one_case, one_answer}
+use Rattle.floats.specs.Value.{float_sample, float_answer, to_float, floated_answer}
+use Rattle.floats.specs.Block.{from_floats, float_block_answer}
 use Rattle.floats.specs.declared.block.FloatBlock.{FloatBlock}
 use Rattle.floats.specs.declared.block.FloatBlock.TheVariants as block
 use Rattle.floats.specs.declared.code.FloatSample.{FloatSample}
@@ -21,34 +21,34 @@ use Rattle.floats.specs.declared.single.Floated.TheVariants as floated
 -- ---- `sample_from_float`
 
 -- the case of an answer
-abbrev sample-back : Answer ℤ → FloatSample
-sample-back (accepted z) = sample.Is z
-sample-back (refused n place) = sample.NotNumber
+abbrev sample_back : Answer ℤ → FloatSample
+sample_back (accepted z) = sample.Is z
+sample_back (refused n place) = sample.NotNumber
 
 -- .. is the case that gave it
-sample-way : (r : FloatSample) → sample-back (floatAnswer r) ≡ r
-sample-way (sample.Is z) = refl
-sample-way sample.NotNumber = refl
+sample_way : (r : FloatSample) → sample_back (float_answer r) ≡ r
+sample_way (sample.Is z) = refl
+sample_way sample.NotNumber = refl
 
 -- one answer for a float
-pub one-sample : (x : Float) {r q : FloatSample} → floatAnswer r ≡ floatAnswer (floatSample x) → floatAnswer q ≡ floatAnswer (floatSample x) → r ≡ q
-one-sample x = one-case floatAnswer sample-back sample-way
+pub one_sample : (x : Float) {r q : FloatSample} → float_answer r ≡ float_answer (float_sample x) → float_answer q ≡ float_answer (float_sample x) → r ≡ q
+one_sample x = one_case float_answer sample_back sample_way
 
 -- ---- `sample_to_float`
 
 -- the case of an answer
-abbrev floated-back : Answer Float → Floated
-floated-back (accepted x) = floated.Is x
-floated-back (refused n place) = floated.OutOfRange
+abbrev floated_back : Answer Float → Floated
+floated_back (accepted x) = floated.Is x
+floated_back (refused n place) = floated.OutOfRange
 
 -- .. is the case that gave it
-floated-way : (r : Floated) → floated-back (floatedAnswer r) ≡ r
-floated-way (floated.Is x) = refl
-floated-way floated.OutOfRange = refl
+floated_way : (r : Floated) → floated_back (floated_answer r) ≡ r
+floated_way (floated.Is x) = refl
+floated_way floated.OutOfRange = refl
 
 -- one answer for a sample
-pub one-floated : (z : ℤ) {r q : Floated} → floatedAnswer r ≡ floatedAnswer (toFloat z) → floatedAnswer q ≡ floatedAnswer (toFloat z) → r ≡ q
-one-floated z = one-case floatedAnswer floated-back floated-way
+pub one_floated : (z : ℤ) {r q : Floated} → floated_answer r ≡ floated_answer (to_float z) → floated_answer q ≡ floated_answer (to_float z) → r ≡ q
+one_floated z = one_case floated_answer floated_back floated_way
 
 -- ---- `samples_from_floats`
 
@@ -58,17 +58,17 @@ block_back (accepted n) = block.Samples n
 block_back (refused n place) = cond (eqb n 6) block.WrongLength (block.BadFloat place)
 
 -- .. is the case that gave it
-block_way : (r : FloatBlock) → block_back (floatBlockAnswer r) ≡ r
+block_way : (r : FloatBlock) → block_back (float_block_answer r) ≡ r
 block_way (block.Samples n) = refl
 block_way block.WrongLength = refl
 block_way (block.BadFloat i) = refl
 
 -- one answer for a block
-pub one_block : (values : List Float) (samples : List ℤ) {r q : FloatBlock} → floatBlockAnswer r ≡ floatBlockAnswer (fromFloats values samples).result →
-    floatBlockAnswer q ≡ floatBlockAnswer (fromFloats values samples).result → r ≡ q
-one_block values samples = one-case floatBlockAnswer block_back block_way
+pub one_block : (values : List Float) (samples : List ℤ) {r q : FloatBlock} → float_block_answer r ≡ float_block_answer (from_floats values samples).result →
+    float_block_answer q ≡ float_block_answer (from_floats values samples).result → r ≡ q
+one_block values samples = one_case float_block_answer block_back block_way
 
 -- .. and one way to leave the samples
-pub one-outcome : (values : List Float) (samples : List ℤ) {r q : FloatBlock} {s t : List ℤ} → Done (fromFloats values samples) r s → Done (fromFloats values samples) q t →
+pub one_outcome : (values : List Float) (samples : List ℤ) {r q : FloatBlock} {s t : List ℤ} → Done (from_floats values samples) r s → Done (from_floats values samples) q t →
     (r ≡ q) × (s ≡ t)
-one-outcome values samples = one_answer
+one_outcome values samples = one_answer

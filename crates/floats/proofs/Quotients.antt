@@ -37,19 +37,19 @@ pub joined : (q k : ℕ) → 8388608 * (q * 2 ^ k) ≡ q * 2 ^ (23 + k)
 joined q k = omega (arith, ap (λ (x : ℕ). q * x) (pow-add 2 23 k))
 
 -- below 2 ^ -24 it is 0
-pub small-quotient : (q k : ℕ) → q < 2 ^ 24 → k ≤ 101 → (q * 2 ^ (23 + k) + 2 ^ 148) / (2 * 2 ^ 148) ≡ 0
-small-quotient q k l h =
+pub small_quotient : (q k : ℕ) → q < 2 ^ 24 → k ≤ 101 → (q * 2 ^ (23 + k) + 2 ^ 148) / (2 * 2 ^ 148) ≡ 0
+small_quotient q k l h =
     none (q * 2 ^ (23 + k)) (2 ^ 148) (lt_of_lt_of_le (shl_lt 24 (23 + k) l) (pow_mono {i = 24 + (23 + k)} {j = 148} (omega arith)))
 
 -- from there to 1.0 it is the digits over 2 ^ j
-pub shifted-quotient : (q k j : ℕ) → 1 ≤ j → k + j ≡ 126 → (q * 2 ^ (23 + k) + 2 ^ 148) / (2 * 2 ^ 148) ≡ (q + 2 ^ (j - 1)) / 2 ^ j
-shifted-quotient q k j l e =
+pub shifted_quotient : (q k j : ℕ) → 1 ≤ j → k + j ≡ 126 → (q * 2 ^ (23 + k) + 2 ^ 148) / (2 * 2 ^ 148) ≡ (q + 2 ^ (j - 1)) / 2 ^ j
+shifted_quotient q k j l e =
     let sum : 148 ≡ 23 + k + (j - 1) = omega arith in
     cancelled q (2 ^ (23 + k)) (2 ^ (j - 1)) (2 ^ 148) (pow_pos (23 + k)) (pow_pos (j - 1))
     (ap (λ (x : ℕ). 2 ^ x) sum ∙ pow-add 2 (23 + k) (j - 1)) (pow_pos 148)
     ∙ ap (λ (x : ℕ). (q + 2 ^ (j - 1)) / x) (sym (double j l))
 
 -- from 1.0 on it is 2 ^ 23 or more
-pub large-quotient : (q k : ℕ) → 8388608 ≤ q → 126 ≤ k → 8388608 ≤ (q * 2 ^ (23 + k) + 2 ^ 148) / (2 * 2 ^ 148)
-large-quotient q k l h =
+pub large_quotient : (q k : ℕ) → 8388608 ≤ q → 126 ≤ k → 8388608 ≤ (q * 2 ^ (23 + k) + 2 ^ 148) / (2 * 2 ^ 148)
+large_quotient q k l h =
     many 8388608 (q * 2 ^ (23 + k)) (2 ^ 148) (pow_pos 148) (mul-le-mul l (pow_mono {i = 149} {j = 23 + k} (omega arith)))

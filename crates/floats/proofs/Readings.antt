@@ -3,7 +3,7 @@ use mathlib.Core.Path.{◌≡◌, refl}
 use mathlib.Core.List.{List, [], ◌∷◌, map}
 use Prim.Native.Nat.{ℕ}
 use lib.IntN.{pos, negsuc}
-use Rattle.floats.specs.Exponent.{byExponent}
+use Rattle.floats.specs.Exponent.{by_exponent}
 use Rattle.floats.specs.declared.code.FloatSample.{FloatSample}
 use Rattle.floats.specs.declared.code.FloatSample.TheVariants.{Is, NotNumber}
 
@@ -32,6 +32,6 @@ table =
     row 2143289344 NotNumber ∷ []
 
 -- each code of the table gives its sample
-pub readings : map (λ (r : Row). byExponent r.code) table ≡ map (λ (r : Row). r.sample) table
-unfolding byExponent
+pub readings : map (λ (r : Row). by_exponent r.code) table ≡ map (λ (r : Row). r.sample) table
+unfolding by_exponent
 readings = refl

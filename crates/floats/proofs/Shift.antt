@@ -11,12 +11,12 @@ use lib.Signed.{lt_z}
 use mir.Syntax.{w32}
 use mir.Val.{Fits, SFits, to_z, of_z}
 use mir.Facts.{to_z-of_z, to_z_pos}
-use Rattle.answers.specs.Unit.{leastSample, mostSample}
+use Rattle.answers.specs.Unit.{least_sample, most_sample}
 use Rattle.whole.specs.Limit.{limit}
-use Rattle.whole.proofs.Signed.{lit, neg, mag-by}
+use Rattle.whole.proofs.Signed.{lit, neg, mag_by}
 use Rattle.floats.specs.Value.{signed}
 use Rattle.floats.specs.Exponent.{shifted}
-use Rattle.floats.proofs.Ends.{limit-far, limit-negative, limit-positive}
+use Rattle.floats.proofs.Ends.{limit_far, limit-negative, limit_positive}
 use Rattle.floats.proofs.Quotients.{double}
 
 -- half of the divisor, as the machine computes it
@@ -33,34 +33,34 @@ few n h p l = le_of_suc-le-suc ((div-lt_iff_lt-mul {k = 2 * h} (omega arith)).1 
 
 module _ (n k : ℕ) (pre : (n < 2 ^ 24) × (1 ≤ k) × (k ≤ 24)) where
   -- half of the divisor is 2 ^ 23 at most
-  half-small : 2 ^ (k - 1) ≤ 8388608
-  half-small = let l = pre.2 in pow_mono {i = k - 1} {j = 23} (omega arith)
+  half_small : 2 ^ (k - 1) ≤ 8388608
+  half_small = let l = pre.2 in pow_mono {i = k - 1} {j = 23} (omega arith)
 
   -- so no bit of it is lost
   half_is : half_step k ≡ 2 ^ (k - 1)
-  half_is = let l = half-small in ap (λ (x : ℕ). x % 4294967296) (one-mul (2 ^ (k - 1))) ∙ mod-eq_of_lt (omega arith)
+  half_is = let l = half_small in ap (λ (x : ℕ). x % 4294967296) (one-mul (2 ^ (k - 1))) ∙ mod-eq_of_lt (omega arith)
 
   -- nor of the sum
   pub sum_fits : Fits w32 (n + half_step k)
-  sum_fits = let l = half-small in let p = pre.0 in record { fits = omega (arith, half_is) }
+  sum_fits = let l = half_small in let p = pre.0 in record { fits = omega (arith, half_is) }
 
   -- the machine's quotient is the definition's
   quotient_is : quotient n k ≡ (n + 2 ^ (k - 1)) / 2 ^ k
   quotient_is = ap (λ (x : ℕ). (n + x) / 2 ^ k) half_is
 
   -- and 2 ^ 23 at most
-  quotient-few : quotient n k ≤ 8388608
-  quotient-few =
+  quotient_few : quotient n k ≤ 8388608
+  quotient_few =
       rw (quotient_is, double k pre.1)
       (few n (2 ^ (k - 1)) (pow_pos (k - 1)) pre.0)
 
   -- so it fits as a signed number
   pub cast_fits : SFits w32 (pos (quotient n k))
-  cast_fits = let l = quotient-few in record { sfits = omega arith }
+  cast_fits = let l = quotient_few in record { sfits = omega arith }
 
   -- which reads as itself
   read : to_z w32 (quotient n k) ≡ pos (quotient n k)
-  read = let l = quotient-few in to_z_pos w32 (omega arith)
+  read = let l = quotient_few in to_z_pos w32 (omega arith)
 
   -- 0 less it is its negative
   turned : pos 0 -ℤ to_z w32 (quotient n k) ≡ neg_ℤ (pos (quotient n k))
@@ -68,26 +68,26 @@ module _ (n k : ℕ) (pre : (n < 2 ^ 24) × (1 ≤ k) × (k ≤ 24)) where
 
   -- that fits too
   negative_fits : SFits w32 (neg_ℤ (pos (quotient n k)))
-  negative_fits = let l = quotient-few in record { sfits = mag-by (neg (lit (quotient n k))) (2 ^ 31) (omega arith) (omega arith) }
+  negative_fits = let l = quotient_few in record { sfits = mag_by (neg (lit (quotient n k))) (2 ^ 31) (omega arith) (omega arith) }
 
   -- in the form that the code has
-  pub minus-fits : SFits w32 (pos 0 -ℤ to_z w32 (quotient n k))
-  minus-fits = rw turned negative_fits
+  pub minus_fits : SFits w32 (pos 0 -ℤ to_z w32 (quotient n k))
+  minus_fits = rw turned negative_fits
 
   -- limited, it is the definition's
-  limited : (s : Bool) → limit leastSample mostSample (signed s (quotient n k)) ≡ shifted s n k
-  limited s = ap (λ (q : ℕ). limit leastSample mostSample (signed s q)) quotient_is
+  limited : (s : Bool) → limit least_sample most_sample (signed s (quotient n k)) ≡ shifted s n k
+  limited s = ap (λ (q : ℕ). limit least_sample most_sample (signed s q)) quotient_is
 
   -- below 0 the quotient is never past the range
   pub is_negative : to_z w32 (of_z w32 (pos 0 -ℤ to_z w32 (quotient n k))) ≡ shifted true n k
-  is_negative = to_z-of_z minus-fits ∙ turned ∙ sym (limit-negative (quotient n k) quotient-few) ∙ limited true
+  is_negative = to_z-of_z minus_fits ∙ turned ∙ sym (limit-negative (quotient n k) quotient_few) ∙ limited true
 
   -- 2 ^ 23 is past the range, and goes to its end
-  pub is-most : lt_z (pos 8388607) (to_z w32 (quotient n k)) ≡ true → pos 8388607 ≡ shifted false n k
-  is-most t =
+  pub is_most : lt_z (pos 8388607) (to_z w32 (quotient n k)) ≡ true → pos 8388607 ≡ shifted false n k
+  is_most t =
       let l : 8388607 < quotient n k = ltb-true 8388607 (quotient n k) (rw read at t) in
-      sym (limit-far false (quotient n k) (omega arith)) ∙ limited false
+      sym (limit_far false (quotient n k) (omega arith)) ∙ limited false
 
   -- a smaller quotient is the answer
-  pub is-quotient : lt_z (pos 8388607) (to_z w32 (quotient n k)) ≡ false → to_z w32 (quotient n k) ≡ shifted false n k
-  is-quotient t = read ∙ sym (limit-positive (quotient n k) (ltb-false 8388607 (quotient n k) (rw read at t))) ∙ limited false
+  pub is_quotient : lt_z (pos 8388607) (to_z w32 (quotient n k)) ≡ false → to_z w32 (quotient n k) ≡ shifted false n k
+  is_quotient t = read ∙ sym (limit_positive (quotient n k) (ltb-false 8388607 (quotient n k) (rw read at t))) ∙ limited false

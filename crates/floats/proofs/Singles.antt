@@ -9,48 +9,48 @@ use lib.Ieee.{Float, nan}
 use lib.ListN.{length, get_or}
 use borrow.Author.Tests.{eqb-true}
 use Rattle.answers.specs.Answer.{accepted}
-use Rattle.answers.specs.Checks.{Outcome, allHold}
-use Rattle.answers.specs.First.{allPass}
-use Rattle.answers.specs.Judging.{allRefuse}
-use Rattle.answers.proofs.Firsts.{all-at}
-use Rattle.answers.proofs.Laws.{and_left, and_right, accepted-holds, all-accept}
-use Rattle.floats.specs.Value.{floatSample}
-use Rattle.floats.specs.Block.{isSample, isNumber, sampleOr0, samplesOf, floatChecks, fromFloats, floatBlockAnswer}
+use Rattle.answers.specs.Checks.{Outcome, all_hold}
+use Rattle.answers.specs.First.{all_pass}
+use Rattle.answers.specs.Judging.{all_refuse}
+use Rattle.answers.proofs.Firsts.{all_at}
+use Rattle.answers.proofs.Laws.{and_left, and_right, accepted_holds, all_accept}
+use Rattle.floats.specs.Value.{float_sample}
+use Rattle.floats.specs.Block.{is_sample, is_number, sample_or0, samples_of, float_checks, from_floats, float_block_answer}
 use Rattle.floats.specs.declared.block.FloatBlock.{FloatBlock}
 use Rattle.floats.specs.declared.block.FloatBlock.TheVariants.{Samples}
 use Rattle.floats.specs.declared.code.FloatSample.{FloatSample}
 use Rattle.floats.specs.declared.code.FloatSample.TheVariants.{Is, NotNumber}
-use Rattle.floats.proofs.Taking.{sample-at}
+use Rattle.floats.proofs.Taking.{sample_at}
 
 -- a sample is its number
-is-sample : (r : FloatSample) → isSample r ≡ true → r ≡ Is (sampleOr0 r)
-is-sample (Is z) e = refl
-is-sample NotNumber e = absurd (false≢true e)
+is_sample_lem : (r : FloatSample) → is_sample r ≡ true → r ≡ Is (sample_or0 r)
+is_sample_lem (Is z) e = refl
+is_sample_lem NotNumber e = absurd (false≢true e)
 
 -- past the end there is 0
-at_place : (values : List Float) (i : ℕ) → get_or (samplesOf values) i (pos 0) ≡ sampleOr0 (floatSample (get_or values i nan))
-unfolding floatSample
-at_place values i = sample-at values i
+at_place : (values : List Float) (i : ℕ) → get_or (samples_of values) i (pos 0) ≡ sample_or0 (float_sample (get_or values i nan))
+unfolding float_sample
+at_place values i = sample_at values i
 
 -- what an accepted block is
 pub record Accepted (values : List Float) (samples : List ℤ) (n : ℕ) : Type 0 where
   pub count : n ≡ length values
   pub long : length samples ≡ length values
-  pub numbers : allPass isNumber values ≡ true
-  pub lent : (fromFloats values samples).lent ≡ samplesOf values
+  pub numbers : all_pass is_number values ≡ true
+  pub lent : (from_floats values samples).lent ≡ samples_of values
 
 -- accepted: as many places as floats, each a number, and the samples of all
-pub accepted-is : (values : List Float) (samples : List ℤ) (n : ℕ) → floatBlockAnswer (fromFloats values samples).result ≡ accepted n → Accepted values samples n
-unfolding fromFloats allRefuse allHold
-accepted-is values samples n e =
-    let cs = floatChecks values samples in
+pub accepted_is : (values : List Float) (samples : List ℤ) (n : ℕ) → float_block_answer (from_floats values samples).result ≡ accepted n → Accepted values samples n
+unfolding from_floats all_refuse all_hold
+accepted_is values samples n e =
+    let cs = float_checks values samples in
     let same = eqb (length samples) (length values) in
-    let each = allPass isNumber values in
-    let held : allHold cs ≡ true = accepted-holds floatBlockAnswer cs samples (samplesOf values) (Samples (length values)) n refl e in
+    let each = all_pass is_number values in
+    let held : all_hold cs ≡ true = accepted_holds float_block_answer cs samples (samples_of values) (Samples (length values)) n refl e in
     let rest = and_right same (each && true) held in
-    let is = all-accept samples (samplesOf values) (Samples (length values)) cs held in
+    let is = all_accept samples (samples_of values) (Samples (length values)) cs held in
     record {
-      count = taken (sym e ∙ ap (λ (o : Outcome FloatBlock (List ℤ)). floatBlockAnswer o.result) is);
+      count = taken (sym e ∙ ap (λ (o : Outcome FloatBlock (List ℤ)). float_block_answer o.result) is);
       long = eqb-true (length samples) (length values) (and_left same (each && true) held);
       numbers = and_left each true rest;
       lent = ap (λ (o : Outcome FloatBlock (List ℤ)). o.lent) is;
@@ -60,9 +60,9 @@ accepted-is values samples n e =
     taken d = cc
 
 -- each sample of an accepted block is the single call's
-pub each-single : (values : List Float) (samples : List ℤ) (n : ℕ) → floatBlockAnswer (fromFloats values samples).result ≡ accepted n →
-    (i : ℕ) → i < n → floatSample (get_or values i nan) ≡ Is (get_or (fromFloats values samples).lent i (pos 0))
-each-single values samples n e i h =
-    let a = accepted-is values samples n e in
-    is-sample (floatSample (get_or values i nan)) (all-at isNumber nan values a.numbers i (rw a.count at h))
+pub each_single : (values : List Float) (samples : List ℤ) (n : ℕ) → float_block_answer (from_floats values samples).result ≡ accepted n →
+    (i : ℕ) → i < n → float_sample (get_or values i nan) ≡ Is (get_or (from_floats values samples).lent i (pos 0))
+each_single values samples n e i h =
+    let a = accepted_is values samples n e in
+    is_sample_lem (float_sample (get_or values i nan)) (all_at is_number nan values a.numbers i (rw a.count at h))
     ∙ ap Is (sym (at_place values i) ∙ ap (λ (s : List ℤ). get_or s i (pos 0)) (sym a.lent))

@@ -13,39 +13,39 @@ use lib.Ieee.Exact.{HasValue}
 use lib.Ieee.Fits.{down_pos}
 use lib.Ieee.Scale.{round_same}
 use Rattle.answers.specs.Range.{within}
-use Rattle.answers.specs.Unit.{leastSample, mostSample, largestSample}
-use Rattle.answers.proofs.Ranges.{within-ends}
-use Rattle.floats.specs.Value.{fullScale, negative, float_of}
+use Rattle.answers.specs.Unit.{least_sample, most_sample, largest_sample}
+use Rattle.answers.proofs.Ranges.{within_ends}
+use Rattle.floats.specs.Value.{full_scale, negative, float_of}
 
 -- a sample is at most 2 ^ 23 in size
-pub sample-size : (z : ℤ) → within leastSample mostSample z ≡ true → nat_abs z ≤ largestSample
-sample-size (pos n) e = omega (arith, leb-true n 8388607 e)
-sample-size (negsuc n) e = omega (arith, ltb-false 8388607 n (within-ends leastSample mostSample (negsuc n) e).0)
+pub sample_size : (z : ℤ) → within least_sample most_sample z ≡ true → nat_abs z ≤ largest_sample
+sample_size (pos n) e = omega (arith, leb-true n 8388607 e)
+sample_size (negsuc n) e = omega (arith, ltb-false 8388607 n (within_ends least_sample most_sample (negsuc n) e).0)
 
 -- numbers up to 2 ^ 24 are floats
-pub in-float : (z : ℤ) → nat_abs z ≤ 2 ^ 24 → T (in_float binary32 z)
+pub in_float_lem : (z : ℤ) → nat_abs z ≤ 2 ^ 24 → T (in_float binary32 z)
 unfolding in_float
-in-float (pos n) h = le→leb n (2 ^ 24) h
-in-float (negsuc n) h = lt→ltb n (2 ^ 24) h
+in_float_lem (pos n) h = le→leb n (2 ^ 24) h
+in_float_lem (negsuc n) h = lt→ltb n (2 ^ 24) h
 
 -- .. of their value
-whole-value : (z : ℤ) → nat_abs z ≤ 2 ^ 24 → HasValue (of_int binary32 z) (negative z) (nat_abs z) 1
+whole_value : (z : ℤ) → nat_abs z ≤ 2 ^ 24 → HasValue (of_int binary32 z) (negative z) (nat_abs z) 1
 unfolding of_int
-whole-value (pos n) h = round_whole binary32 false n h
-whole-value (negsuc n) h = round_whole binary32 true (suc n) h
+whole_value (pos n) h = round_whole binary32 false n h
+whole_value (negsuc n) h = round_whole binary32 true (suc n) h
 
 -- v / d over 2 ^ 23 is n / 2 ^ 23 where v / d is n
-over : (v d n : ℕ) → v * 1 ≡ n * d → v * 1 * fullScale ≡ n * (1 * 2 ^ 23 * d)
-over v d n e = omega (arith, ap (λ (x : ℕ). x * fullScale) e)
+over : (v d n : ℕ) → v * 1 ≡ n * d → v * 1 * full_scale ≡ n * (1 * 2 ^ 23 * d)
+over v d n e = omega (arith, ap (λ (x : ℕ). x * full_scale) e)
 
 -- .. rounded
-rounded : (t s : Bool) (v d n : ℕ) → 0 < d → t ≡ s → v * 1 ≡ n * d → round binary32 t (v * 1) (1 * 2 ^ 23 * d) ≡ round binary32 s n fullScale
+rounded : (t s : Bool) (v d n : ℕ) → 0 < d → t ≡ s → v * 1 ≡ n * d → round binary32 t (v * 1) (1 * 2 ^ 23 * d) ≡ round binary32 s n full_scale
 rounded t s v d n h e q =
     ap (λ (u : Bool). round binary32 u (v * 1) (1 * 2 ^ 23 * d)) e
-    ∙ round_same binary32 s (v * 1) (1 * 2 ^ 23 * d) n fullScale (mul-pos (lit< tt) h) (lit< tt) (over v d n q)
+    ∙ round_same binary32 s (v * 1) (1 * 2 ^ 23 * d) n full_scale (mul-pos (lit< tt) h) (lit< tt) (over v d n q)
 
 -- the quotient of a float with the value n
-quotient : (x : Float) (s : Bool) (n : ℕ) → HasValue x s n 1 → div binary32 x (fin false 1 (pos 23)) ≡ round binary32 s n fullScale
+quotient : (x : Float) (s : Bool) (n : ℕ) → HasValue x s n 1 → div binary32 x (fin false 1 (pos 23)) ≡ round binary32 s n full_scale
 unfolding div
 quotient nan s n v = absurd v
 quotient (inf t) s n v = absurd v
@@ -54,4 +54,4 @@ quotient (fin false m e) s n v = rounded false s (m * up e) (down e) n (down_pos
 
 -- what the code works out is the float of the sample
 pub float_is : (z : ℤ) → nat_abs z ≤ 2 ^ 24 → div binary32 (of_int binary32 z) (fin false 1 (pos 23)) ≡ float_of z
-float_is z h = quotient (of_int binary32 z) (negative z) (nat_abs z) (whole-value z h)
+float_is z h = quotient (of_int binary32 z) (negative z) (nat_abs z) (whole_value z h)

@@ -1,6 +1,6 @@
 -- A float as a sample, by ranges of its exponent, from its 32 bits: one of sign, eight of exponent, 23 of digits.
 use Rattle.std.specs.Prelude.{Bool, cond, ℕ, ◌+◌, ◌-◌, ◌/◌, ◌%◌, ◌^◌, ℤ, pos, eqb, leb}
-use Rattle.answers.specs.Unit.{leastSample, mostSample}
+use Rattle.answers.specs.Unit.{least_sample, most_sample}
 use Rattle.whole.specs.Limit.{limit}
 use Rattle.floats.specs.Value.{signed}
 use Rattle.floats.specs.declared.code.FloatSample.{FloatSample}
@@ -20,15 +20,15 @@ digits code = 2 ^ 23 + code % 2 ^ 23
 
 -- rule 9.8: from 1.0 on, either way, the end of the range
 abbrev pub end_of : Bool → ℤ
-end_of negative = cond negative leastSample mostSample
+end_of negative = cond negative least_sample most_sample
 
 -- rule 9.8: n / 2 ^ k, to the nearest, a tie away from zero, limited: just below 1.0 it rounds past the range
 abbrev pub shifted : Bool → (n k : ℕ) → ℤ
-shifted negative n k = limit leastSample mostSample (signed negative ((n + 2 ^ (k - 1)) / 2 ^ k))
+shifted negative n k = limit least_sample most_sample (signed negative ((n + 2 ^ (k - 1)) / 2 ^ k))
 
 -- rule 9.8: 255 is no number, from 127 up the limit, 103 to 126 a shift, below zero
-unfoldable pub byExponent : (code : ℕ) → FloatSample
-byExponent code =
+unfoldable pub by_exponent : (code : ℕ) → FloatSample
+by_exponent code =
     let x = exponent code in
     cond (eqb x 255) NotNumber
     (cond (leb 127 x) (Is (end_of (minus code)))

@@ -5,7 +5,7 @@ use Rattle.std.specs.Float.Ieee.{up, down, round}
 use Rattle.answers.specs.Answer.{Answer, accepted, refused}
 use Rattle.answers.specs.Checks.{check, choose}
 use Rattle.answers.specs.Range.{within}
-use Rattle.answers.specs.Unit.{leastSample, mostSample}
+use Rattle.answers.specs.Unit.{least_sample, most_sample}
 use Rattle.whole.specs.Limit.{limit}
 use Rattle.whole.specs.Nearest.{nearest}
 use Rattle.floats.specs.declared.code.FloatSample.{FloatSample}
@@ -14,8 +14,8 @@ use Rattle.floats.specs.declared.single.Floated.{Floated}
 use Rattle.floats.specs.declared.single.Floated.TheVariants as floated
 
 -- rule 9.7: the sample of a float of 1
-abbrev pub fullScale : ℕ
-fullScale = 8388608
+abbrev pub full_scale : ℕ
+full_scale = 8388608
 
 -- a magnitude with a sign
 abbrev pub signed : Bool → ℕ → ℤ
@@ -23,30 +23,30 @@ signed false n = pos n
 signed true n = neg_ℤ (pos n)
 
 -- rule 9.7: the value times 8,388,608, to the nearest whole number, limited; a NaN and the infinities are no sample
-unfoldable pub floatSample : Float → FloatSample
-floatSample nan = NotNumber
-floatSample (inf s) = NotNumber
-floatSample (fin s m e) = Is (limit leastSample mostSample (nearest (down e) (signed s (fullScale * (m * up e)))))
+unfoldable pub float_sample : Float → FloatSample
+float_sample nan = NotNumber
+float_sample (inf s) = NotNumber
+float_sample (fin s m e) = Is (limit least_sample most_sample (nearest (down e) (signed s (full_scale * (m * up e)))))
 
 -- rule 6.8: numbers and values for `FloatSample`
-abbrev pub floatAnswer : FloatSample → Answer ℤ
-floatAnswer (Is z) = accepted z
-floatAnswer NotNumber = refused 41 0
+abbrev pub float_answer : FloatSample → Answer ℤ
+float_answer (Is z) = accepted z
+float_answer NotNumber = refused 41 0
 
 -- whether a number is negative
 abbrev pub negative : ℤ → Bool
 negative (pos n) = false
 negative (negsuc n) = true
 
--- rule 9.10: the float nearest to z / 8,388,608, which is just that (proofs/Back: `nothing-lost`)
+-- rule 9.10: the float nearest to z / 8,388,608, which is just that (proofs/Back: `nothing_lost`)
 abbrev pub float_of : ℤ → Float
-float_of z = round binary32 (negative z) (nat_abs z) fullScale
+float_of z = round binary32 (negative z) (nat_abs z) full_scale
 
 -- rule 9.10: `sample_to_float`
-unfoldable pub toFloat : ℤ → Floated
-toFloat z = choose (check (within leastSample mostSample z) floated.OutOfRange ∷ []) (floated.Is (float_of z))
+unfoldable pub to_float : ℤ → Floated
+to_float z = choose (check (within least_sample most_sample z) floated.OutOfRange ∷ []) (floated.Is (float_of z))
 
 -- rule 6.8: numbers and values for `Floated`
-abbrev pub floatedAnswer : Floated → Answer Float
-floatedAnswer (floated.Is x) = accepted x
-floatedAnswer floated.OutOfRange = refused 19 0
+abbrev pub floated_answer : Floated → Answer Float
+floated_answer (floated.Is x) = accepted x
+floated_answer floated.OutOfRange = refused 19 0

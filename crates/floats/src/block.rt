@@ -1,9 +1,9 @@
 // Floats to samples by the block. Everything is judged before anything is written.
 ghost use Rattle.std.specs.Prelude.{◌≡◌, length};
 ghost use Rattle.answers.specs.Checks.{Done};
-ghost use Rattle.answers.specs.First.{firstFailing};
-ghost use Rattle.floats.specs.Value.{floatSample};
-ghost use Rattle.floats.specs.Block.{isNumber, sampleOr0, samplesOf, fromFloats};
+ghost use Rattle.answers.specs.First.{first_failing};
+ghost use Rattle.floats.specs.Value.{float_sample};
+ghost use Rattle.floats.specs.Block.{is_number, sample_or0, samples_of, from_floats};
 
 use crate::code;
 use crate::code::is_sample;
@@ -21,14 +21,14 @@ pub enum FloatBlock {
 }
 
 fn is_number(value: f32) -> bool
-    ensures { result ≡ isNumber value }
+    ensures { result ≡ is_number value }
 {
     is_sample(sample_from_float(value))
 }
 
 // The place of the first float that is no number, or their number where none is.
 fn first_bad(values: &[f32]) -> usize
-    ensures { result ≡ firstFailing isNumber values.now }
+    ensures { result ≡ first_failing is_number values.now }
 {
     let mut i = 0;
     while i < values.len() {
@@ -42,14 +42,14 @@ fn first_bad(values: &[f32]) -> usize
 
 // The sample of a float, 0 for what is none.
 fn sample_or_0(value: f32) -> i32
-    ensures { result ≡ sampleOr0 (floatSample value) }
+    ensures { result ≡ sample_or0 (float_sample value) }
 {
     code::sample_or_0(sample_from_float(value))
 }
 
 fn take_all(values: &[f32], samples: &mut [i32])
     requires { length samples.old ≡ length values.now }
-    ensures { samples.new ≡ samplesOf values.now }
+    ensures { samples.new ≡ samples_of values.now }
 {
     let mut i = 0;
     while i < samples.len() {
@@ -60,7 +60,7 @@ fn take_all(values: &[f32], samples: &mut [i32])
 
 // The samples of floats, one for each.
 pub fn samples_from_floats(values: &[f32], samples: &mut [i32]) -> FloatBlock
-    ensures { Done (fromFloats values.now samples.old) result samples.new }
+    ensures { Done (from_floats values.now samples.old) result samples.new }
 {
     if samples.len() != values.len() {
         return FloatBlock::WrongLength;

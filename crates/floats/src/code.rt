@@ -2,9 +2,9 @@
 ghost use Rattle.std.specs.Prelude.{◌≡◌, ◌<◌, ◌≤◌, ◌^◌};
 ghost use Rattle.std.specs.Float.{binary32};
 ghost use Rattle.std.specs.Float.Ieee.{of_bits};
-ghost use Rattle.floats.specs.Value.{floatSample};
-ghost use Rattle.floats.specs.Block.{isSample, sampleOr0};
-ghost use Rattle.floats.specs.Exponent.{end_of, shifted, byExponent};
+ghost use Rattle.floats.specs.Value.{float_sample};
+ghost use Rattle.floats.specs.Block.{is_sample, sample_or0};
+ghost use Rattle.floats.specs.Exponent.{end_of, shifted, by_exponent};
 
 use answers::unit::{LEAST_SAMPLE, MOST_SAMPLE};
 
@@ -18,7 +18,7 @@ pub enum FloatSample {
 
 // Whether it is a sample.
 pub fn is_sample(float: FloatSample) -> bool
-    ensures { result ≡ isSample float }
+    ensures { result ≡ is_sample float }
 {
     match float {
         FloatSample::Is(_) => true,
@@ -28,7 +28,7 @@ pub fn is_sample(float: FloatSample) -> bool
 
 // The sample, and 0 where there is none.
 pub fn sample_or_0(float: FloatSample) -> i32
-    ensures { result ≡ sampleOr0 float }
+    ensures { result ≡ sample_or0 float }
 {
     match float {
         FloatSample::Is(z) => z,
@@ -56,7 +56,7 @@ fn shifted(negative: bool, digits: u32, k: u32) -> i32
 }
 
 fn by_exponent(code: u32) -> FloatSample
-    ensures { result ≡ byExponent code }
+    ensures { result ≡ by_exponent code }
 {
     let negative = 2147483648 <= code;
     let x = code / 8388608 % 256;
@@ -70,7 +70,7 @@ fn by_exponent(code: u32) -> FloatSample
 
 // The sample of the float with these bits.
 pub fn sample_of_code(code: u32) -> FloatSample
-    ensures { result ≡ floatSample (of_bits binary32 code) }
+    ensures { result ≡ float_sample (of_bits binary32 code) }
 {
     by_exponent(code)
 }

@@ -1,6 +1,6 @@
 // One float to a sample, and one sample to a float.
 ghost use Rattle.std.specs.Prelude.{◌≡◌};
-ghost use Rattle.floats.specs.Value.{floatSample, toFloat};
+ghost use Rattle.floats.specs.Value.{float_sample, to_float};
 
 use crate::code::{FloatSample, sample_of_code};
 use answers::range::within;
@@ -16,7 +16,7 @@ pub enum Floated {
 
 // The sample of a float. A NaN has no bits to be asked for; only it differs from itself.
 pub fn sample_from_float(value: f32) -> FloatSample
-    ensures { result ≡ floatSample value }
+    ensures { result ≡ float_sample value }
 {
     if value != value {
         return FloatSample::NotNumber;
@@ -26,7 +26,7 @@ pub fn sample_from_float(value: f32) -> FloatSample
 
 // The float of a sample. Both steps are exact: 24 bits fit a float, and so does their quotient by a power of two.
 pub fn sample_to_float(sample: i32) -> Floated
-    ensures { result ≡ toFloat sample }
+    ensures { result ≡ to_float sample }
 {
     if !within(LEAST_SAMPLE, MOST_SAMPLE, sample) {
         return Floated::OutOfRange;

@@ -14,7 +14,7 @@ use mir.Val.{SFits}
 use mir.Facts.{to_z-of_z}
 use Rattle.whole.proofs.Rounded.{raw}
 use Rattle.frames.specs.Frames.{side}
-use Rattle.frames.proofs.Laws.{side-length, side-at, side-from, other-side, other-frame, place_inside}
+use Rattle.frames.proofs.Laws.{side-length, side_at, side-from, other_side, other_frame, place_inside}
 
 -- ---- copied
 
@@ -24,12 +24,12 @@ pub record Copying (x row₀ row : List ℤ) (i : ℕ) : Type 0 where
   pub same_row : length row ≡ length row₀
   pub rest : take i row ++ slice i (length x) x ≡ x
 
-pub copying-starts : (x row : List ℤ) → Copying x row row 0
-copying-starts x row = record { reached = omega arith; same_row = refl; rest = take_all (length x) x (omega arith) }
+pub copying_starts : (x row : List ℤ) → Copying x row row 0
+copying_starts x row = record { reached = omega arith; same_row = refl; rest = take_all (length x) x (omega arith) }
 
 module _ (x row₀ row : List ℤ) (i : ℕ) (p : Copying x row₀ row i) where
-  pub copying-on : i < length x → length x ≤ length row₀ → SFits w32 (get_or x i (pos 0)) → Copying x row₀ (set row i (raw w32 (get_or x i (pos 0)))) (i + 1)
-  copying-on h hr fx =
+  pub copying_on : i < length x → length x ≤ length row₀ → SFits w32 (get_or x i (pos 0)) → Copying x row₀ (set row i (raw w32 (get_or x i (pos 0)))) (i + 1)
+  copying_on h hr fx =
       let v = get_or x i (pos 0) in
       record {
         reached = omega arith;
@@ -37,8 +37,8 @@ module _ (x row₀ row : List ℤ) (i : ℕ) (p : Copying x row₀ row i) where
         rest = rw (add-one i, to_z-of_z fx, take-suc-set row i v (omega (arith, p.same_row)), append_snoc) (rw (slice-cons i (length x) x (pos 0) h (omega arith)) at p.rest);
       }
 
-  pub copying-ends : length x ≤ i → take (length x) row ≡ x
-  copying-ends h =
+  pub copying_ends : length x ≤ i → take (length x) row ≡ x
+  copying_ends h =
       let end : i ≡ length x = omega (arith, p.reached) in
       rw (end, slice_empty (length x) x, append-nil) at p.rest
 
@@ -51,13 +51,13 @@ pub record Gathering (c s n : ℕ) (block row₀ row : List ℤ) (i : ℕ) : Typ
   pub rest : take i row ++ side c s (n - i) (drop (c * i) block) ≡ side c s n block
 
 module _ (c s n : ℕ) (block row₀ : List ℤ) where
-  pub gathering-starts : Gathering c s n block row₀ row₀ 0
-  gathering-starts = record { reached = omega arith; same_row = refl; rest = rw (mul-zero c, sub-zero n) refl }
+  pub gathering_starts : Gathering c s n block row₀ row₀ 0
+  gathering_starts = record { reached = omega arith; same_row = refl; rest = rw (mul-zero c, sub-zero n) refl }
 
   module _ (row : List ℤ) (i : ℕ) (g : Gathering c s n block row₀ row i) where
-    pub gathering-on : i < n → n ≤ length row₀ → SFits w32 (get_or block (c * i + s) (pos 0)) →
+    pub gathering_on : i < n → n ≤ length row₀ → SFits w32 (get_or block (c * i + s) (pos 0)) →
         Gathering c s n block row₀ (set row i (raw w32 (get_or block (c * i + s) (pos 0)))) (i + 1)
-    gathering-on h room fits =
+    gathering_on h room fits =
         let v = get_or block (c * i + s) (pos 0) in
         record {
           reached = omega arith;
@@ -65,9 +65,9 @@ module _ (c s n : ℕ) (block row₀ : List ℤ) where
           rest = rw (add-one i, to_z-of_z fits, take-suc-set row i v (omega (arith, g.same_row)), append_snoc) (rw (side-from c s n i block h) at g.rest);
         }
 
-    pub gathering-ends : n ≤ i → take n row ≡ side c s n block
+    pub gathering_ends : n ≤ i → take n row ≡ side c s n block
     unfolding side
-    gathering-ends h =
+    gathering_ends h =
         let end : i ≡ n = omega (arith, g.reached) in
         let none : n - n ≡ 0 = omega arith in
         rw (end, none, append-nil) at g.rest
@@ -81,34 +81,34 @@ pub record Putting (c s : ℕ) (f : ℕ → ℤ) (block₀ block : List ℤ) (i 
   pub others : (j t : ℕ) → t < c → (t ≡ s → ⊥) → get_or block (c * j + t) (pos 0) ≡ get_or block₀ (c * j + t) (pos 0)
 
 module _ (c s : ℕ) (f : ℕ → ℤ) (block₀ : List ℤ) where
-  pub putting-starts : Putting c s f block₀ block₀ 0
-  putting-starts = record { same_block = refl; here = λ j h. absurd (omega arith); others = λ j t l n. refl }
+  pub putting_starts : Putting c s f block₀ block₀ 0
+  putting_starts = record { same_block = refl; here = λ j h. absurd (omega arith); others = λ j t l n. refl }
 
   module _ {block : List ℤ} {i : ℕ} (g : Putting c s f block₀ block i) (below : s < c) where
-    pub putting-on : (n : ℕ) (v : ℤ) → i < n → length block₀ ≡ c * n → v ≡ f i → Putting c s f block₀ (set block (c * i + s) v) (i + 1)
-    putting-on n v h room e =
+    pub putting_on : (n : ℕ) (v : ℤ) → i < n → length block₀ ≡ c * n → v ≡ f i → Putting c s f block₀ (set block (c * i + s) v) (i + 1)
+    putting_on n v h room e =
         record {
           same_block = length-set block at v ∙ g.same_block;
           here = λ j l. by j l (dec_lt j i);
-          others = λ j t l n. get_or-set_other block at (c * j + t) v (pos 0) (other-side c i j s t below l n) ∙ g.others j t l n;
+          others = λ j t l n. get_or-set_other block at (c * j + t) v (pos 0) (other_side c i j s t below l n) ∙ g.others j t l n;
         }
       where
         at : ℕ
         at = c * i + s
 
         by : (j : ℕ) → j < i + 1 → Dec (j < i) → get_or (set block at v) (c * j + s) (pos 0) ≡ f j
-        by j l (yes q) = get_or-set_other block at (c * j + s) v (pos 0) (other-frame c i j s below q) ∙ g.here j q
+        by j l (yes q) = get_or-set_other block at (c * j + s) v (pos 0) (other_frame c i j s below q) ∙ g.here j q
         by j l (no q) =
             let same : j ≡ i = omega arith in
             rw same (get_or-set_same block at v (pos 0) (omega (arith, g.same_block, room, place_inside c i s n h below)) ∙ e)
 
     -- once n frames are done
-    pub put-here : (n j : ℕ) → n ≤ i → j < n → get_or (side c s n block) j (pos 0) ≡ f j
-    put-here n j h l = side-at c s n j block l ∙ g.here j (omega arith)
+    pub put_here : (n j : ℕ) → n ≤ i → j < n → get_or (side c s n block) j (pos 0) ≡ f j
+    put_here n j h l = side_at c s n j block l ∙ g.here j (omega arith)
 
-    pub put-others : (n t : ℕ) → t < c → (t ≡ s → ⊥) → side c t n block ≡ side c t n block₀
-    put-others n t l q =
+    pub put_others : (n t : ℕ) → t < c → (t ≡ s → ⊥) → side c t n block ≡ side c t n block₀
+    put_others n t l q =
         ext_get_or (pos 0) (side c t n block) (side c t n block₀) (side-length c t n block ∙ sym (side-length c t n block₀))
         (λ j m.
         let inside : j < n = omega (arith, side-length c t n block) in
-        side-at c t n j block inside ∙ g.others j t l q ∙ sym (side-at c t n j block₀ inside))
+        side_at c t n j block inside ∙ g.others j t l q ∙ sym (side_at c t n j block₀ inside))

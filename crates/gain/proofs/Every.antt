@@ -34,12 +34,12 @@ every f = below (λ (i : ℕ). f (pos i -ℤ pos 24)) 49
 pub at_place : (f : ℤ → Bool) → T (every f) → (i : ℕ) → i < 49 → T (f (pos i -ℤ pos 24))
 at_place f = at (λ (i : ℕ). f (pos i -ℤ pos 24)) 49
 
-pub at-half : (f : ℤ → Bool) → T (every f) → (n : ℤ) → nat_abs n ≤ 24 → T (f n)
-at-half f t n h = subst (λ (k : ℤ). T (f k)) (place-back n h) (at_place f t (nat_abs (n +ℤ pos 24)) (place-below n h))
+pub at_half : (f : ℤ → Bool) → T (every f) → (n : ℤ) → nat_abs n ≤ 24 → T (f n)
+at_half f t n h = subst (λ (k : ℤ). T (f k)) (place-back n h) (at_place f t (nat_abs (n +ℤ pos 24)) (place-below n h))
 
-in-range : ℤ → Bool
-in-range n = leb (nat_abs n) 24
+in_range : ℤ → Bool
+in_range n = leb (nat_abs n) 24
 
-pub place-range : (i : ℕ) → i < 49 → nat_abs (pos i -ℤ pos 24) ≤ 24
-unfolding in-range
-place-range i h = leb→le (nat_abs (pos i -ℤ pos 24)) 24 (at_place in-range tt i h)
+pub place_range : (i : ℕ) → i < 49 → nat_abs (pos i -ℤ pos 24) ≤ 24
+unfolding in_range
+place_range i h = leb→le (nat_abs (pos i -ℤ pos 24)) 24 (at_place in_range tt i h)

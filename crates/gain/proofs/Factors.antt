@@ -7,9 +7,9 @@ use lib.Ieee.{Float, nan, inf, fin, binary32, up, down, lt, ne, mul, fits}
 use lib.Ieee.Compare.{differs_from_itself}
 use lib.Ieee.Fits.{down_pos}
 use Rattle.answers.specs.Unit.{unity}
-use Rattle.gain.specs.Factor.{nearestUp, upToFour, timesGain, factorGain}
+use Rattle.gain.specs.Factor.{nearest_up, up_to_four, times_gain, factor_gain}
 use Rattle.gain.specs.declared.Gained.TheVariants.{Gain, NotFactor}
-use Rattle.gain.proofs.Halves.{true-is-not-false}
+use Rattle.gain.proofs.Halves.{true_is_not_false}
 use Rattle.gain.proofs.Product.{exact, Cut, cut}
 
 -- ---- the rounding
@@ -18,23 +18,23 @@ use Rattle.gain.proofs.Product.{exact, Cut, cut}
 abbrev pub Rounded : ℕ → ℕ → ℕ → Type 0
 Rounded a b g = ((2 * g - 1) * b ≤ 2 * a) × (2 * a < (2 * g + 1) * b)
 
-half-below : (g r a b : ℕ) → g * (2 * b) + r ≡ 2 * a + b → (2 * g - 1) * b ≤ 2 * a
-half-below zero r a b e = omega arith
-half-below (suc g) r a b e =
+half_below : (g r a b : ℕ) → g * (2 * b) + r ≡ 2 * a + b → (2 * g - 1) * b ≤ 2 * a
+half_below zero r a b e = omega arith
+half_below (suc g) r a b e =
     let odd : 2 * suc g - 1 ≡ 2 * g + 1 = omega arith in
     rw odd (omega arith)
 
 -- the promise's rounding is to the nearest, a tie upward
-pub rounded : (a b : ℕ) → 0 < b → Rounded a b (nearestUp a b)
+pub rounded : (a b : ℕ) → 0 < b → Rounded a b (nearest_up a b)
 rounded a b p =
     let here : 0 < 2 * b = omega arith in
     let quotient = div-add-mod' (2 * a + b) (2 * b) in
     let rest = mod-lt (2 * a + b) here in
-    (half-below (nearestUp a b) ((2 * a + b) % (2 * b)) a b quotient, omega arith)
+    (half_below (nearest_up a b) ((2 * a + b) % (2 * b)) a b quotient, omega arith)
 
 -- no second number is nearest
-pub one-rounded : (a b g h : ℕ) → Rounded a b g → Rounded a b h → g ≡ h
-one-rounded a b g h p q =
+pub one_rounded : (a b g h : ℕ) → Rounded a b g → Rounded a b h → g ≡ h
+one_rounded a b g h p q =
     let up : 2 * g - 1 < 2 * h + 1 = lt_of_mul-lt-mul_right b (lt_of_le_of_lt p.0 q.1) in
     let back : 2 * h - 1 < 2 * g + 1 = lt_of_mul-lt-mul_right b (lt_of_le_of_lt q.0 p.1) in
     omega arith
@@ -45,61 +45,61 @@ one-rounded a b g h p q =
 abbrev pub Accepted : Float → Type 0
 Accepted nan = ⊥
 Accepted (inf s) = ⊥
-Accepted (fin s m e) = upToFour s (m * up e) (down e) ≡ true
+Accepted (fin s m e) = up_to_four s (m * up e) (down e) ≡ true
 
 zero_left : (v d : ℕ) → ltb 0 (v * 1 + 0 * 1 * d) ≡ false → v ≡ 0
 zero_left v d e = let l = ltb-false 0 (v * 1 + 0 * 1 * d) e in omega arith
 
-four-at-most : (v d : ℕ) → ltb (1 * 2 ^ 2 * d) (v * 1) ≡ false → v ≤ 4 * d
-four-at-most v d e = let l = ltb-false (1 * 2 ^ 2 * d) (v * 1) e in omega arith
+four_at_most : (v d : ℕ) → ltb (1 * 2 ^ 2 * d) (v * 1) ≡ false → v ≤ 4 * d
+four_at_most v d e = let l = ltb-false (1 * 2 ^ 2 * d) (v * 1) e in omega arith
 
 -- past the three tests of the code
-pub not-refused : (x : Float) → ne x x ≡ false → lt x (fin false 0 (pos 0)) ≡ false → lt (fin false 1 (pos 2)) x ≡ false → Accepted x
+pub not_refused : (x : Float) → ne x x ≡ false → lt x (fin false 0 (pos 0)) ≡ false → lt (fin false 1 (pos 2)) x ≡ false → Accepted x
 unfolding ne lt
-not-refused nan d l g = absurd (true-is-not-false d)
-not-refused (inf true) d l g = absurd (true-is-not-false l)
-not-refused (inf false) d l g = absurd (true-is-not-false g)
-not-refused (fin true m e) d l g = eq-eqb (m * up e) 0 (zero_left (m * up e) (down e) l)
-not-refused (fin false m e) d l g = le-leb (m * up e) (4 * down e) (four-at-most (m * up e) (down e) g)
+not_refused nan d l g = absurd (true_is_not_false d)
+not_refused (inf true) d l g = absurd (true_is_not_false l)
+not_refused (inf false) d l g = absurd (true_is_not_false g)
+not_refused (fin true m e) d l g = eq-eqb (m * up e) 0 (zero_left (m * up e) (down e) l)
+not_refused (fin false m e) d l g = le-leb (m * up e) (4 * down e) (four_at_most (m * up e) (down e) g)
 
 -- the size of a finite float in half steps of gain, cut to a whole number
-unfoldable pub half-steps : Float → ℕ
-half-steps nan = 0
-half-steps (inf s) = 0
-half-steps (fin s m e) = m * up e * 2 ^ 13 / down e
+unfoldable pub half_steps : Float → ℕ
+half_steps nan = 0
+half_steps (inf s) = 0
+half_steps (fin s m e) = m * up e * 2 ^ 13 / down e
 
-pub at-most-four : (s : Bool) (v d : ℕ) → upToFour s v d ≡ true → v ≤ 4 * d
-at-most-four true v d e = let z = eqb-true v 0 e in omega arith
-at-most-four false v d e = leb-true v (4 * d) e
+pub at_most_four : (s : Bool) (v d : ℕ) → up_to_four s v d ≡ true → v ≤ 4 * d
+at_most_four true v d e = let z = eqb-true v 0 e in omega arith
+at_most_four false v d e = leb-true v (4 * d) e
 
-zero-if-negative : (s : Bool) (v d : ℕ) → upToFour s v d ≡ true → s ≡ true → v ≡ 0
-zero-if-negative true v d e h = eqb-true v 0 e
-zero-if-negative false v d e h = absurd (true-is-not-false (sym h))
+zero_if_negative : (s : Bool) (v d : ℕ) → up_to_four s v d ≡ true → s ≡ true → v ≡ 0
+zero_if_negative true v d e h = eqb-true v 0 e
+zero_if_negative false v d e h = absurd (true_is_not_false (sym h))
 
-pub few-steps : (x : Float) → Accepted x → half-steps x ≤ 32768
-unfolding half-steps
-few-steps nan a = absurd a
-few-steps (inf s) a = absurd a
-few-steps (fin s m e) a = let l = at-most-four s (m * up e) (down e) a in div-le_of_le-mul (down e) (omega arith)
+pub few_steps : (x : Float) → Accepted x → half_steps x ≤ 32768
+unfolding half_steps
+few_steps nan a = absurd a
+few_steps (inf s) a = absurd a
+few_steps (fin s m e) a = let l = at_most_four s (m * up e) (down e) a in div-le_of_le-mul (down e) (omega arith)
 
-steps-under : (v d t : ℕ) → 0 < d → v ≤ 4 * d → 32768 < t → v * 2 ^ 13 < t * d
-steps-under v d t p l h = omega (arith, mul-lt-mul_of_pos_right h p)
+steps_under : (v d t : ℕ) → 0 < d → v ≤ 4 * d → 32768 < t → v * 2 ^ 13 < t * d
+steps_under v d t p l h = omega (arith, mul-lt-mul_of_pos_right h p)
 
 -- the product is exact, and its whole part is the half steps
-pub steps-cut : (x : Float) → fits binary32 x ≡ true → Accepted x → Cut (mul binary32 x (fin false 1 (pos 13))) (half-steps x)
-unfolding half-steps
-steps-cut nan f a = absurd a
-steps-cut (inf s) f a = absurd a
-steps-cut (fin s m e) f a =
+pub steps_cut : (x : Float) → fits binary32 x ≡ true → Accepted x → Cut (mul binary32 x (fin false 1 (pos 13))) (half_steps x)
+unfolding half_steps
+steps_cut nan f a = absurd a
+steps_cut (inf s) f a = absurd a
+steps_cut (fin s m e) f a =
     let here = down_pos e in
-    let l = at-most-four s (m * up e) (down e) a in
+    let l = at_most_four s (m * up e) (down e) a in
     cut (mul binary32 (fin s m e) (fin false 1 (pos 13))) s (m * up e * 2 ^ 13) (down e) here
-    (exact s m e 13 (subst T (sym f) tt) (steps-under (m * up e) (down e) (2 ^ 128) here l (lit< tt)))
-    (λ h. ap (λ (v : ℕ). v * 2 ^ 13) (zero-if-negative s (m * up e) (down e) a h))
-    (steps-under (m * up e) (down e) (2 ^ 64) here l (lit< tt))
+    (exact s m e 13 (subst T (sym f) tt) (steps_under (m * up e) (down e) (2 ^ 128) here l (lit< tt)))
+    (λ h. ap (λ (v : ℕ). v * 2 ^ 13) (zero_if_negative s (m * up e) (down e) a h))
+    (steps_under (m * up e) (down e) (2 ^ 64) here l (lit< tt))
 
 -- a tie upward: half a step more, cut
-half_step : (v d : ℕ) → 0 < d → nearestUp (unity * v) d ≡ (v * 2 ^ 13 / d + 1) / 2
+half_step : (v d : ℕ) → 0 < d → nearest_up (unity * v) d ≡ (v * 2 ^ 13 / d + 1) / 2
 half_step v d p =
     let top : 2 * (unity * v) + d ≡ v * 2 ^ 13 + d = omega arith in
     ap (λ (x : ℕ). x / (2 * d)) top
@@ -107,37 +107,37 @@ half_step v d p =
     ∙ sym (div-div-eq-div-mul (v * 2 ^ 13 + d) d 2)
     ∙ ap (λ (x : ℕ). x / 2) (add-div_right (v * 2 ^ 13) p)
 
-pub accepted-steps : (x : Float) → Accepted x → factorGain x ≡ Gain (pos ((half-steps x + 1) / 2))
-unfolding factorGain timesGain half-steps
-accepted-steps nan a = absurd a
-accepted-steps (inf s) a = absurd a
-accepted-steps (fin s m e) a = rw (a, half_step (m * up e) (down e) (down_pos e))
+pub accepted_steps : (x : Float) → Accepted x → factor_gain x ≡ Gain (pos ((half_steps x + 1) / 2))
+unfolding factor_gain times_gain half_steps
+accepted_steps nan a = absurd a
+accepted_steps (inf s) a = absurd a
+accepted_steps (fin s m e) a = rw (a, half_step (m * up e) (down e) (down_pos e))
 
 -- ---- refused
 
-pub refused-nan : (x : Float) → ne x x ≡ true → factorGain x ≡ NotFactor
-unfolding factorGain
-refused-nan x e = rw (differs_from_itself x (subst T (sym e) tt))
+pub refused_nan : (x : Float) → ne x x ≡ true → factor_gain x ≡ NotFactor
+unfolding factor_gain
+refused_nan x e = rw (differs_from_itself x (subst T (sym e) tt))
 
-not-zero : (v d : ℕ) → ltb 0 (v * 1 + 0 * 1 * d) ≡ true → v ≡ 0 → ⊥
-not-zero v d e z = let l = ltb-true 0 (v * 1 + 0 * 1 * d) e in omega arith
+not_zero : (v d : ℕ) → ltb 0 (v * 1 + 0 * 1 * d) ≡ true → v ≡ 0 → ⊥
+not_zero v d e z = let l = ltb-true 0 (v * 1 + 0 * 1 * d) e in omega arith
 
 none_below : (v d : ℕ) → ltb (v * 1) (0 * 1 * d) ≡ true → ⊥
 none_below v d e = let l = ltb-true (v * 1) (0 * 1 * d) e in omega arith
 
-pub refused-below : (x : Float) → lt x (fin false 0 (pos 0)) ≡ true → factorGain x ≡ NotFactor
-unfolding factorGain timesGain lt
-refused-below nan e = refl
-refused-below (inf s) e = refl
-refused-below (fin true m k) e = rw (ne_eqb (m * up k) 0 (not-zero (m * up k) (down k) e))
-refused-below (fin false m k) e = absurd (none_below (m * up k) (down k) e)
+pub refused_below : (x : Float) → lt x (fin false 0 (pos 0)) ≡ true → factor_gain x ≡ NotFactor
+unfolding factor_gain times_gain lt
+refused_below nan e = refl
+refused_below (inf s) e = refl
+refused_below (fin true m k) e = rw (ne_eqb (m * up k) 0 (not_zero (m * up k) (down k) e))
+refused_below (fin false m k) e = absurd (none_below (m * up k) (down k) e)
 
-past-four : (v d : ℕ) → ltb (1 * 2 ^ 2 * d) (v * 1) ≡ true → 4 * d < v
-past-four v d e = let l = ltb-true (1 * 2 ^ 2 * d) (v * 1) e in omega arith
+past_four : (v d : ℕ) → ltb (1 * 2 ^ 2 * d) (v * 1) ≡ true → 4 * d < v
+past_four v d e = let l = ltb-true (1 * 2 ^ 2 * d) (v * 1) e in omega arith
 
-pub refused-above : (x : Float) → lt (fin false 1 (pos 2)) x ≡ true → factorGain x ≡ NotFactor
-unfolding factorGain timesGain lt
-refused-above nan e = refl
-refused-above (inf s) e = refl
-refused-above (fin true m k) e = absurd (true-is-not-false (sym e))
-refused-above (fin false m k) e = rw (lt-leb (m * up k) (4 * down k) (past-four (m * up k) (down k) e))
+pub refused_above : (x : Float) → lt (fin false 1 (pos 2)) x ≡ true → factor_gain x ≡ NotFactor
+unfolding factor_gain times_gain lt
+refused_above nan e = refl
+refused_above (inf s) e = refl
+refused_above (fin true m k) e = absurd (true_is_not_false (sym e))
+refused_above (fin false m k) e = rw (lt-leb (m * up k) (4 * down k) (past_four (m * up k) (down k) e))

@@ -17,18 +17,18 @@ mul_power true m e k = simp (one-mul, mul-one)
 mul_power false m e k = simp (one-mul, mul-one)
 
 -- what an f32 that is not 0 has: few digits, and no more than 149 places behind the point
-few-digits : (s : Bool) (m : ℕ) (e : ℤ) → T (fits binary32 (fin s m e)) → m < 2 ^ 24
+few_digits : (s : Bool) (m : ℕ) (e : ℤ) → T (fits binary32 (fin s m e)) → m < 2 ^ 24
 unfolding fits
-few-digits s zero e t = pow_pos 24
-few-digits s (suc m) e t =
+few_digits s zero e t = pow_pos 24
+few_digits s (suc m) e t =
     let odd = eqb (suc m % 2) 1 in
     let small = ltb (suc m) (2 ^ 24) in
     let fine = leb (down e) (2 ^ 149) in
     ltb→lt (suc m) (2 ^ 24) (and_r odd small (and_l (odd && small) fine (and_l (odd && small && fine) (ltb (suc m * up e) (2 ^ 128 * down e)) t)))
 
-few-places : (s : Bool) (m : ℕ) (e : ℤ) → T (fits binary32 (fin s (suc m) e)) → down e ≤ 2 ^ 149
+few_places : (s : Bool) (m : ℕ) (e : ℤ) → T (fits binary32 (fin s (suc m) e)) → down e ≤ 2 ^ 149
 unfolding fits
-few-places s m e t =
+few_places s m e t =
     let front = eqb (suc m % 2) 1 && ltb (suc m) (2 ^ 24) in
     let fine = leb (down e) (2 ^ 149) in
     leb→le (down e) (2 ^ 149) (and_r front fine (and_l (front && fine) (ltb (suc m * up e) (2 ^ 128 * down e)) t))
@@ -41,21 +41,21 @@ shift (negsuc i) k = k + 149 - suc i
 power_le : (i j : ℕ) → 2 ^ i ≤ 2 ^ j → i ≤ j
 power_le i j h = le_of_suc-le-suc (lt_of_not-le (λ (l : j < i). not-le_of_lt (pow-lt l) h))
 
-shift-right : (e : ℤ) (k : ℕ) → down e ≤ 2 ^ 149 → up e * 2 ^ k * 2 ^ 149 ≡ 2 ^ shift e k * down e
+shift_right : (e : ℤ) (k : ℕ) → down e ≤ 2 ^ 149 → up e * 2 ^ k * 2 ^ 149 ≡ 2 ^ shift e k * down e
 unfolding shift
-shift-right (pos i) k h = ap (λ (x : ℕ). x * 2 ^ 149) (sym (pow-add 2 i k)) ∙ sym (pow-add 2 (i + k) 149) ∙ sym (mul-one (2 ^ (i + k + 149)))
-shift-right (negsuc i) k h =
+shift_right (pos i) k h = ap (λ (x : ℕ). x * 2 ^ 149) (sym (pow-add 2 i k)) ∙ sym (pow-add 2 (i + k) 149) ∙ sym (mul-one (2 ^ (i + k + 149)))
+shift_right (negsuc i) k h =
     let l : suc i ≤ 149 = power_le (suc i) 149 h in
     ap (λ (x : ℕ). x * 2 ^ 149) (one-mul (2 ^ k))
     ∙ sym (pow-add 2 k 149)
     ∙ ap (λ (x : ℕ). 2 ^ x) (sym (back (k + 149) (suc i) (omega arith)))
     ∙ pow-add 2 (k + 149 - suc i) (suc i)
 
-in-units : (m : ℕ) (e : ℤ) (k : ℕ) → down e ≤ 2 ^ 149 → m * up e * 2 ^ k * 2 ^ 149 ≡ m * 2 ^ shift e k * down e
-in-units m e k h =
+in_units : (m : ℕ) (e : ℤ) (k : ℕ) → down e ≤ 2 ^ 149 → m * up e * 2 ^ k * 2 ^ 149 ≡ m * 2 ^ shift e k * down e
+in_units m e k h =
     ap (λ (x : ℕ). x * 2 ^ 149) (mul_assoc m (up e) (2 ^ k))
     ∙ mul_assoc m (up e * 2 ^ k) (2 ^ 149)
-    ∙ ap (λ (x : ℕ). m * x) (shift-right e k h)
+    ∙ ap (λ (x : ℕ). m * x) (shift_right e k h)
     ∙ sym (mul_assoc m (2 ^ shift e k) (down e))
 
 -- a bound in one unit is a bound in another
@@ -68,9 +68,9 @@ exact s zero e k f h =
     rw (mul_power s zero e k)
     (round_exact binary32 s (0 * up e * 2 ^ k) (down e) 0 0 (down_pos e) (pow_pos 24) (pow_pos 277) (simp zero-mul))
 exact s (suc m) e k f h =
-    let units = in-units (suc m) e k (few-places s m e f) in
+    let units = in_units (suc m) e k (few_places s m e f) in
     rw (mul_power s (suc m) e k)
-    (round_exact binary32 s (suc m * up e * 2 ^ k) (down e) (suc m) (shift e k) (down_pos e) (few-digits s (suc m) e f)
+    (round_exact binary32 s (suc m * up e * 2 ^ k) (down e) (suc m) (shift e k) (down_pos e) (few_digits s (suc m) e f)
     (under_top (suc m * 2 ^ shift e k) (suc m * up e * 2 ^ k) (down e) (2 ^ 128) (2 ^ 149) (pow_pos 149) units h)
     units)
 
@@ -82,11 +82,11 @@ pub record Cut (y : Float) (n : ℕ) : Type 0 where
   pub under : T (lt y (fin false 1 (pos 64)))
   pub whole : to_unsigned 64 y ≡ n
 
-zero-size : (v d a c : ℕ) → 0 < c → v * c ≡ a * d → a ≡ 0 → v ≡ 0
-zero-size v d a c p e z = eq_of_mul-eq-mul_right c p v 0 (e ∙ ap (λ (x : ℕ). x * d) z ∙ zero-mul d ∙ sym (zero-mul c))
+zero_size : (v d a c : ℕ) → 0 < c → v * c ≡ a * d → a ≡ 0 → v ≡ 0
+zero_size v d a c p e z = eq_of_mul-eq-mul_right c p v 0 (e ∙ ap (λ (x : ℕ). x * d) z ∙ zero-mul d ∙ sym (zero-mul c))
 
-same-bound : (v d a c : ℕ) → 0 < c → 0 < d → v * c ≡ a * d → a < 2 ^ 64 * c → v < 2 ^ 64 * d
-same-bound v d a c p q e h = lt_of_mul-lt-mul_right c (omega (arith, mul-lt-mul_of_pos_right h q))
+same_bound : (v d a c : ℕ) → 0 < c → 0 < d → v * c ≡ a * d → a < 2 ^ 64 * c → v < 2 ^ 64 * d
+same_bound v d a c p q e h = lt_of_mul-lt-mul_right c (omega (arith, mul-lt-mul_of_pos_right h q))
 
 uncapped : (a : ℕ) → a < 2 ^ 64 → min a (2 ^ 64 - 1) ≡ a
 uncapped a h = omega arith
@@ -96,7 +96,7 @@ unfolding lt to_unsigned
 cut nan s a c p v z h = absurd v
 cut (inf t) s a c p v z h = absurd v
 cut (fin true n d) s a c p v z h =
-    let none : n * up d ≡ 0 = zero-size (n * up d) (down d) a c p v.1 (z (sym v.0)) in
+    let none : n * up d ≡ 0 = zero_size (n * up d) (down d) a c p v.1 (z (sym v.0)) in
     let here = down_pos d in
     record {
       above = lt→ltb (n * up d * 1) (1 * 1 * down d) (omega arith);
@@ -105,7 +105,7 @@ cut (fin true n d) s a c p v z h =
     }
 cut (fin false n d) s a c p v z h =
     let here = down_pos d in
-    let small : n * up d < 2 ^ 64 * down d = same-bound (n * up d) (down d) a c p here v.1 h in
+    let small : n * up d < 2 ^ 64 * down d = same_bound (n * up d) (down d) a c p here v.1 h in
     let quotient : n * up d / down d ≡ a / c = div_same (n * up d) (down d) a c here p v.1 in
     let whole : a / c < 2 ^ 64 = (div-lt_iff_lt-mul p).1 h in
     record {

@@ -6,34 +6,34 @@ use lib.Ieee.Fits.{and_l, and_r}
 use lib.Signed.{lt_z}
 use Rattle.answers.specs.Unit as unit
 use Rattle.gain.specs.Table.{gains, entry, FortiethRule}
-use Rattle.gain.proofs.Every.{at, every, at-half}
+use Rattle.gain.proofs.Every.{at, every, at_half}
 
 -- ---- the rule
 
-rule-test : ℤ → ℕ → Bool
-rule-test (pos n) g = leb ((2 * g - 1) ^ 40) (8192 ^ 40 * 10 ^ n) && ltb (8192 ^ 40 * 10 ^ n) ((2 * g + 1) ^ 40)
-rule-test (negsuc k) g = leb ((2 * g - 1) ^ 40 * 10 ^ suc k) (8192 ^ 40) && ltb (8192 ^ 40) ((2 * g + 1) ^ 40 * 10 ^ suc k)
+rule_test : ℤ → ℕ → Bool
+rule_test (pos n) g = leb ((2 * g - 1) ^ 40) (8192 ^ 40 * 10 ^ n) && ltb (8192 ^ 40 * 10 ^ n) ((2 * g + 1) ^ 40)
+rule_test (negsuc k) g = leb ((2 * g - 1) ^ 40 * 10 ^ suc k) (8192 ^ 40) && ltb (8192 ^ 40) ((2 * g + 1) ^ 40 * 10 ^ suc k)
 
 both : (a b c : ℕ) → T (leb a b && ltb b c) → (a ≤ b) × (b < c)
 both a b c t = (leb→le a b (and_l (leb a b) (ltb b c) t), ltb→lt b c (and_r (leb a b) (ltb b c) t))
 
-rule-right : (n : ℤ) (g : ℕ) → T (rule-test n g) → FortiethRule n g
-unfolding rule-test FortiethRule
-rule-right (pos n) g t = both ((2 * g - 1) ^ 40) (8192 ^ 40 * 10 ^ n) ((2 * g + 1) ^ 40) t
-rule-right (negsuc k) g t = both ((2 * g - 1) ^ 40 * 10 ^ suc k) (8192 ^ 40) ((2 * g + 1) ^ 40 * 10 ^ suc k) t
+rule_right : (n : ℤ) (g : ℕ) → T (rule_test n g) → FortiethRule n g
+unfolding rule_test FortiethRule
+rule_right (pos n) g t = both ((2 * g - 1) ^ 40) (8192 ^ 40 * 10 ^ n) ((2 * g + 1) ^ 40) t
+rule_right (negsuc k) g t = both ((2 * g - 1) ^ 40 * 10 ^ suc k) (8192 ^ 40) ((2 * g + 1) ^ 40 * 10 ^ suc k) t
 
-entry-test : ℤ → Bool
-entry-test n = rule-test n (entry n)
+entry_test : ℤ → Bool
+entry_test n = rule_test n (entry n)
 
 -- the one computed test
-every-entry : T (every entry-test)
-unfolding entry-test rule-test entry
+every-entry : T (every entry_test)
+unfolding entry_test rule_test entry
 every-entry = tt
 
 -- the fortieth-power rule, at every n from -24 to 24
 pub rule : (n : ℤ) → nat_abs n ≤ 24 → FortiethRule n (entry n)
-unfolding entry-test
-rule n h = rule-right n (entry n) (at-half entry-test every-entry n h)
+unfolding entry_test
+rule n h = rule_right n (entry n) (at_half entry_test every-entry n h)
 
 -- no second entry meets the rule
 odd_step : (g h : ℕ) → g < h → 2 * g + 1 ≤ 2 * h - 1
@@ -53,21 +53,21 @@ one_entry (negsuc k) g h p q =
 
 -- ---- order and size
 
-small-test : ℤ → Bool
-small-test n = leb (entry n) unit.largestGain
+small_test : ℤ → Bool
+small_test n = leb (entry n) unit.largest_gain
 
-pub entry-small : (n : ℤ) → nat_abs n ≤ 24 → entry n ≤ unit.largestGain
-unfolding small-test entry
-entry-small n h = leb→le (entry n) unit.largestGain (at-half small-test tt n h)
+pub entry_small : (n : ℤ) → nat_abs n ≤ 24 → entry n ≤ unit.largest_gain
+unfolding small_test entry
+entry_small n h = leb→le (entry n) unit.largest_gain (at_half small_test tt n h)
 
-above-test : ℤ → ℤ → Bool
-above-test m n = not (lt_z m n) || ltb (entry m) (entry n)
+above_test : ℤ → ℤ → Bool
+above_test m n = not (lt_z m n) || ltb (entry m) (entry n)
 
-row-test : ℤ → Bool
-row-test m = every (above-test m)
+row_test : ℤ → Bool
+row_test m = every (above_test m)
 
-every-row : T (every row-test)
-unfolding row-test above-test entry
+every-row : T (every row_test)
+unfolding row_test above_test entry
 every-row = tt
 
 passed : (a b : Bool) → T (not a || b) → T a → T b
@@ -76,9 +76,9 @@ passed false b t h = absurd h
 
 -- the table is strictly increasing
 pub increasing : (m n : ℤ) → nat_abs m ≤ 24 → nat_abs n ≤ 24 → m <ℤ n → entry m < entry n
-unfolding row-test above-test
+unfolding row_test above_test
 increasing m n h k l =
-    ltb→lt (entry m) (entry n) (passed (lt_z m n) (ltb (entry m) (entry n)) (at-half (above-test m) (at-half row-test every-row m h) n k) l.lt)
+    ltb→lt (entry m) (entry n) (passed (lt_z m n) (ltb (entry m) (entry n)) (at_half (above_test m) (at_half row_test every-row m h) n k) l.lt)
 
 -- ---- unity
 
@@ -86,14 +86,14 @@ increasing m n h k l =
 abbrev pub NearUnity : ℕ → ℕ → Type 0
 NearUnity a b = (2 * (a * b) ≤ 2 * unit.unity ^ 2 + (a + b)) × (2 * unit.unity ^ 2 ≤ 2 * (a * b) + (a + b))
 
-unity-test : ℤ → Bool
-unity-test n =
+unity_test : ℤ → Bool
+unity_test n =
     let a = entry n in
     let b = entry (neg_ℤ n) in
     leb (2 * (a * b)) (2 * unit.unity ^ 2 + (a + b)) && leb (2 * unit.unity ^ 2) (2 * (a * b) + (a + b))
 
-every-unity : T (every unity-test)
-unfolding unity-test entry
+every-unity : T (every unity_test)
+unfolding unity_test entry
 every-unity = tt
 
 near : (a b : ℕ) → T (leb (2 * (a * b)) (2 * unit.unity ^ 2 + (a + b)) && leb (2 * unit.unity ^ 2) (2 * (a * b) + (a + b))) → NearUnity a b
@@ -104,24 +104,24 @@ near a b t =
 
 -- the gains of n and of -n half decibels multiply to unity
 pub unity : (n : ℤ) → nat_abs n ≤ 24 → NearUnity (entry n) (entry (neg_ℤ n))
-unfolding unity-test
-unity n h = near (entry n) (entry (neg_ℤ n)) (at-half unity-test every-unity n h)
+unfolding unity_test
+unity n h = near (entry n) (entry (neg_ℤ n)) (at_half unity_test every-unity n h)
 
 -- ---- the table as it is written, by places
 
-place-test : ℕ → Bool
-place-test i = eqb (entry (pos i -ℤ pos 24)) (get_or gains i 0)
+place_test : ℕ → Bool
+place_test i = eqb (entry (pos i -ℤ pos 24)) (get_or gains i 0)
 
 pub entry_at : (i : ℕ) → i < 49 → entry (pos i -ℤ pos 24) ≡ get_or gains i 0
-unfolding place-test entry gains
-entry_at i h = eqb→eq (entry (pos i -ℤ pos 24)) (get_or gains i 0) (at place-test 49 tt i h)
+unfolding place_test entry gains
+entry_at i h = eqb→eq (entry (pos i -ℤ pos 24)) (get_or gains i 0) (at place_test 49 tt i h)
 
 -- the same numbers as signed ones
 abbrev pub positives : List ℕ → List ℤ
 positives [] = []
 positives (x ∷ xs) = pos x ∷ positives xs
 
-pub getD-positives : (xs : List ℕ) (i : ℕ) → get_or (positives xs) i (pos 0) ≡ pos (get_or xs i 0)
-getD-positives [] i = refl
-getD-positives (x ∷ xs) zero = refl
-getD-positives (x ∷ xs) (suc i) = getD-positives xs i
+pub get_d_positives : (xs : List ℕ) (i : ℕ) → get_or (positives xs) i (pos 0) ≡ pos (get_or xs i 0)
+get_d_positives [] i = refl
+get_d_positives (x ∷ xs) zero = refl
+get_d_positives (x ∷ xs) (suc i) = get_d_positives xs i

@@ -17,17 +17,17 @@ Half (inf s) n = ⊥
 Half (fin s m e) n = (2 * (m * up e) ≡ unsigned_abs n * down e) × (signed s (unsigned_abs n) ≡ n)
 
 -- rule 7.2: of ±t/d half decibels: accepted if t/d is whole and at most 24, with the entry of ±t/d
-unfoldable pub halvesGain : Bool → ℕ → ℕ → Gained
+unfoldable pub halves_gain : Bool → ℕ → ℕ → Gained
 unfolding entry
-halvesGain s t d = cond (t % d == 0 && nat_le (t / d) 24) (Gain (pos (entry (signed s (t / d))))) NotHalfDecibels
+halves_gain s t d = cond (t % d == 0 && nat_le (t / d) 24) (Gain (pos (entry (signed s (t / d))))) NotHalfDecibels
 
 -- rule 7.2: of ±m·2^e decibels, which are twice as many half decibels; a NaN and the infinities have no gain
-unfoldable pub decibelsGain : Float → Gained
-unfolding halvesGain
-decibelsGain nan = NotHalfDecibels
-decibelsGain (inf s) = NotHalfDecibels
-decibelsGain (fin s m e) = halvesGain s (2 * (m * up e)) (down e)
+unfoldable pub decibels_gain : Float → Gained
+unfolding halves_gain
+decibels_gain nan = NotHalfDecibels
+decibels_gain (inf s) = NotHalfDecibels
+decibels_gain (fin s m e) = halves_gain s (2 * (m * up e)) (down e)
 
 -- rule 7.2: the float of the table's place i: i less 24, which is 3·2^3, times 1·2^-1, each step as f32 works it out
-unfoldable pub halfDecibel : ℕ → Float
-halfDecibel i = mul binary32 (sub binary32 (of_int binary32 (pos i)) (fin false 3 (pos 3))) (fin false 1 (negsuc 0))
+unfoldable pub half_decibel : ℕ → Float
+half_decibel i = mul binary32 (sub binary32 (of_int binary32 (pos i)) (fin false 3 (pos 3))) (fin false 1 (negsuc 0))

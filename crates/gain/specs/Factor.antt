@@ -7,21 +7,21 @@ use Rattle.gain.specs.declared.Gained.{Gained}
 use Rattle.gain.specs.declared.Gained.TheVariants.{Gain, NotFactor}
 
 -- rule 7.5: ±v/d is from 0 to 4, both included, -0.0 as 0
-abbrev pub upToFour : Bool → ℕ → ℕ → Bool
-upToFour true v d = v == 0
-upToFour false v d = nat_le v (4 * d)
+abbrev pub up_to_four : Bool → ℕ → ℕ → Bool
+up_to_four true v d = v == 0
+up_to_four false v d = nat_le v (4 * d)
 
 -- rule 7.6: a/b to the nearest whole number, a tie upward: a half more, cut
-abbrev pub nearestUp : ℕ → ℕ → ℕ
-nearestUp a b = (2 * a + b) / (2 * b)
+abbrev pub nearest_up : ℕ → ℕ → ℕ
+nearest_up a b = (2 * a + b) / (2 * b)
 
 -- rule 7.6: of the factor ±v/d: that many times unity, rounded
-unfoldable pub timesGain : Bool → ℕ → ℕ → Gained
-timesGain s v d = cond (upToFour s v d) (Gain (pos (nearestUp (unity * v) d))) NotFactor
+unfoldable pub times_gain : Bool → ℕ → ℕ → Gained
+times_gain s v d = cond (up_to_four s v d) (Gain (pos (nearest_up (unity * v) d))) NotFactor
 
 -- rule 7.5: of the factor ±m·2^e; a NaN and the infinities have no gain
-unfoldable pub factorGain : Float → Gained
-unfolding timesGain
-factorGain nan = NotFactor
-factorGain (inf s) = NotFactor
-factorGain (fin s m e) = timesGain s (m * up e) (down e)
+unfoldable pub factor_gain : Float → Gained
+unfolding times_gain
+factor_gain nan = NotFactor
+factor_gain (inf s) = NotFactor
+factor_gain (fin s m e) = times_gain s (m * up e) (down e)

@@ -1,6 +1,6 @@
 // Decibels to a gain: one table, one entry for each half decibel from -12 to 12.
 ghost use Rattle.std.specs.Prelude.{◌≡◌, ◌<◌, pos, ◌-ℤ◌};
-ghost use Rattle.gain.specs.Decibels.{decibelsGain, halfDecibel};
+ghost use Rattle.gain.specs.Decibels.{decibels_gain, half_decibel};
 ghost use Rattle.gain.specs.Table.{entry};
 
 use crate::Gained;
@@ -22,14 +22,14 @@ fn gain_at(i: usize) -> i32
 
 // The half decibel of entry i, exactly: -12.0, -11.5, .. 12.0.
 pub fn half_decibel(i: u8) -> f32
-    ensures { result ≡ halfDecibel i }
+    ensures { result ≡ half_decibel i }
 {
     (i as f32 - 24.0) * 0.5
 }
 
 // The gain of x decibels. Equality of floats takes -0.0 for 0, and a NaN for nothing.
 pub(crate) fn decibels(x: f32) -> Gained
-    ensures { result ≡ decibelsGain x }
+    ensures { result ≡ decibels_gain x }
 {
     for i in 0..49 {
         if x == half_decibel(i) {

@@ -1,6 +1,6 @@
 // Gain commands: decibels, a factor, or off, each answered by a gain or a refusal.
 ghost use Rattle.std.specs.Prelude.{◌≡◌};
-ghost use Rattle.gain.specs.Promise.{commandGain};
+ghost use Rattle.gain.specs.Promise.{command_gain};
 
 mod decibels;
 mod factor;
@@ -24,7 +24,7 @@ pub enum Gained {
 
 // The one gain of a command: from the table for decibels, the nearest for a factor, 0 for off.
 pub fn gain(command: Command) -> Gained
-    ensures { result ≡ commandGain command }
+    ensures { result ≡ command_gain command }
 {
     match command {
         Command::Decibels(x) => decibels::decibels(x),

@@ -1,6 +1,6 @@
 // What the gain command answers to the floats below, to the floats next to them, and to the negatives of all of these.
 ghost use Rattle.std.specs.Prelude.{◌≡◌, unsigned_abs};
-ghost use Rattle.printing.specs.Told.{numbered, byNumber};
+ghost use Rattle.printing.specs.Told.{numbered, by_number};
 
 use encoding::code::SignedParts;
 use gain::{Command, Gained};
@@ -41,7 +41,7 @@ fn float(bits: u32) -> f32 {
 
 // A gain without its sign, or the number of the refusal.
 fn answered(a: SignedParts) -> Answer
-    ensures { numbered result ≡ byNumber a.0 (unsigned_abs a.2) }
+    ensures { numbered result ≡ by_number a.0 (unsigned_abs a.2) }
 {
     if a.0 == 0 {
         return Answer::Accepted(printing::magnitude(a.2));

@@ -3,13 +3,13 @@ use Rattle.std.specs.Prelude.{◌≡◌, Bool, cond, List, [], ◌∷◌, ◌++�
 use Rattle.answers.specs.Answer.{accepted, number_in}
 use Rattle.answers.specs.Checks.{Outcome}
 use Rattle.tree.specs.Prototype.{published}
-use Rattle.tree.specs.Signal.{signalOf, gainOf}
-use Rattle.tree.specs.Exact.{exactOutput}
+use Rattle.tree.specs.Signal.{signal_of, gain_of}
+use Rattle.tree.specs.Exact.{exact_output}
 use Rattle.octave.specs.declared.block.Blocked.{Blocked}
-use Rattle.octave.specs.Answer.{blockAnswer}
-use Rattle.octave.specs.Memory.{sidePlaces, heldIn, memoryOf, bandsIn, prepared}
+use Rattle.octave.specs.Answer.{block_answer}
+use Rattle.octave.specs.Memory.{side_places, held_in, memory_of, bands_in, prepared}
 use Rattle.frames.specs.Frames.{side_of, places_of}
-use Rattle.octave.specs.Block.{framesOf, block_of}
+use Rattle.octave.specs.Block.{frames_of, block_of}
 
 -- rule 11.2: a block call: its gains, its samples, and what the output block held before
 pub record Call : Type 0 where
@@ -26,8 +26,8 @@ abbrev pub after_call : List ℤ → Call → List ℤ
 after_call m c = (called m c).lent.0
 
 -- rule 6.6: whether it is accepted; no refusal has the number 0
-abbrev pub isAccepted : List ℤ → Call → Bool
-isAccepted m c = eqb (number_in (blockAnswer (called m c).result)) 0
+abbrev pub is_accepted : List ℤ → Call → Bool
+is_accepted m c = eqb (number_in (block_answer (called m c).result)) 0
 
 -- rules 11.2, 11.4: the memory after some calls, and the outputs of the accepted ones joined
 pub record Played : Type 0 where
@@ -39,17 +39,17 @@ unfoldable pub played : List ℤ → List Call → Played
 played m [] = record { memory = m; output = [] }
 played m (c ∷ cs) =
     let rest = played (after_call m c) cs in
-    record { memory = rest.memory; output = cond (isAccepted m c) ((called m c).lent.1 ++ rest.output) rest.output }
+    record { memory = rest.memory; output = cond (is_accepted m c) ((called m c).lent.1 ++ rest.output) rest.output }
 
 -- rule 11.4: the accepted ones among some calls, in their order
-unfoldable pub acceptedOf : List ℤ → List Call → List Call
-acceptedOf m [] = []
-acceptedOf m (c ∷ cs) = cond (isAccepted m c) (c ∷ acceptedOf (after_call m c) cs) (acceptedOf (after_call m c) cs)
+unfoldable pub accepted_of : List ℤ → List Call → List Call
+accepted_of m [] = []
+accepted_of m (c ∷ cs) = cond (is_accepted m c) (c ∷ accepted_of (after_call m c) cs) (accepted_of (after_call m c) cs)
 
 -- rule 11.2: every call is accepted, with the number of its frames
 unfoldable pub AllAccepted : List ℤ → List Call → Type 0
 AllAccepted m [] = Unit {0}
-AllAccepted m (c ∷ cs) = (blockAnswer (called m c).result ≡ accepted (framesOf m c.input)) × AllAccepted (after_call m c) cs
+AllAccepted m (c ∷ cs) = (block_answer (called m c).result ≡ accepted (frames_of m c.input)) × AllAccepted (after_call m c) cs
 
 -- rule 11.2: the samples of the calls, joined
 unfoldable pub joined : List Call → List ℤ
@@ -59,7 +59,7 @@ joined (c ∷ cs) = c.input ++ joined cs
 -- rule 3.10: the gains of the call that carried sample n
 unfoldable pub carried : List Call → ℕ → ℕ → ℤ
 carried [] n m = pos 0
-carried (c ∷ cs) n m = cond (ltb n (length c.input)) (gainOf c.gains m) (carried cs (n - length c.input) m)
+carried (c ∷ cs) n m = cond (ltb n (length c.input)) (gain_of c.gains m) (carried cs (n - length c.input) m)
 
 -- rule 11.2: f n, f (n + 1), .., k of them
 unfoldable pub from : {A : Type 0} → ℕ → ℕ → (ℕ → A) → List A
@@ -72,28 +72,28 @@ written M cs n = get_or (played (prepared M 1) cs).output n (pos 0)
 
 -- rule 4.5: 4,096·P times the exact output for sample n of those calls
 abbrev pub exact : ℕ → List Call → ℕ → ℤ
-exact M cs n = exactOutput published M (carried cs) (signalOf (joined cs)) n
+exact M cs n = exact_output published M (carried cs) (signal_of (joined cs)) n
 
 -- ---- one side of calls
 
 -- rule 11.11: one side of a call, as a call of one channel
-abbrev pub sideCall : (channels s : ℕ) → Call → Call
-sideCall c s call = record { gains = call.gains; input = side_of c s call.input; before = side_of c s call.before }
+abbrev pub side_call : (channels s : ℕ) → Call → Call
+side_call c s call = record { gains = call.gains; input = side_of c s call.input; before = side_of c s call.before }
 
 -- rule 11.11: one side of calls
-unfoldable pub sideCalls : (channels s : ℕ) → List Call → List Call
-sideCalls c s [] = []
-sideCalls c s (call ∷ cs) = sideCall c s call ∷ sideCalls c s cs
+unfoldable pub side_calls : (channels s : ℕ) → List Call → List Call
+side_calls c s [] = []
+side_calls c s (call ∷ cs) = side_call c s call ∷ side_calls c s cs
 
 -- rule 11.11: the memory of one channel that holds the lines of one side
-abbrev pub sideMemory : (s : ℕ) → List ℤ → List ℤ
-sideMemory s m =
-    let h = heldIn m in
-    memoryOf (record { count = h.count; channels = pos 1; position = h.position; lines = places_of (sidePlaces (bandsIn m)) s h.lines })
+abbrev pub side_memory : (s : ℕ) → List ℤ → List ℤ
+side_memory s m =
+    let h = held_in m in
+    memory_of (record { count = h.count; channels = pos 1; position = h.position; lines = places_of (side_places (bands_in m)) s h.lines })
 
 -- rule 11.11: the output that was written on side s for frame n of calls from prepared memory
-abbrev pub writtenOn : (M channels s : ℕ) → List Call → ℕ → ℤ
-writtenOn M c s cs n = get_or (played (prepared M c) cs).output (c * n + s) (pos 0)
+abbrev pub written_on : (M channels s : ℕ) → List Call → ℕ → ℤ
+written_on M c s cs n = get_or (played (prepared M c) cs).output (c * n + s) (pos 0)
 
 -- rule 11.12: the calls of two runs carry the same gains and the same samples of one side
 unfoldable pub SameSide : (channels s : ℕ) → List Call → List Call → Type 0

@@ -9,14 +9,14 @@ use lib.Seq.{drop-set-lt, take_all, drop_at, take-append-le, length-take-le}
 use lib.IntN.{ℤ}
 use borrow.Rule.Slice.PartMut.{put_mid}
 use Rattle.tree.specs.Prototype.{Prototype}
-use Rattle.lines.specs.Rows.{rowPlaces, line, rowed, Shown}
+use Rattle.lines.specs.Rows.{row_places, line, rowed, Shown}
 use Rattle.lines.specs.Helpers.{LineDone, RowRegion, RowsDone}
-use Rattle.lines.proofs.Interchange.{line-length}
-use Rattle.lines.proofs.Regions.{less_one, less_two, held_of, behind-it, region-same}
+use Rattle.lines.proofs.Interchange.{line_length_lem}
+use Rattle.lines.proofs.Regions.{less_one, less_two, held_of, behind_it, region_same}
 
 -- what is lent on is what stands behind; what comes back is put there
-pub rest-is : (k : ℕ) (m : List ℤ) → take (length m - k) (drop k m) ≡ drop k m
-rest-is k m = take_all (length m - k) (drop k m) (simp length-drop (le_refl (length m - k)))
+pub rest_is : (k : ℕ) (m : List ℤ) → take (length m - k) (drop k m) ≡ drop k m
+rest_is k m = take_all (length m - k) (drop k m) (simp length-drop (le_refl (length m - k)))
 
 pub put_is : (k : ℕ) (m ys : List ℤ) → k ≤ length m → put_mid k (length m - k) m ys ≡ take k m ++ ys
 put_is k m ys h =
@@ -25,32 +25,32 @@ put_is k m ys h =
 
 module _ (p : Prototype) (size at L n : ℕ) (lines matrix : List ℤ) where
   -- a line's run leaves what stands behind it
-  line-drop : (at : ℕ) (lines xs : List ℤ) → at + length xs ≤ size → drop size (line p size L at lines xs).places ≡ drop size lines
+  line_drop : (at : ℕ) (lines xs : List ℤ) → at + length xs ≤ size → drop size (line p size L at lines xs).places ≡ drop size lines
   unfolding line
-  line-drop at lines [] h = refl
-  line-drop at lines (x ∷ xs) h = line-drop (suc at) (set lines at x) xs (omega arith) ∙ drop-set-lt size lines at x (omega arith)
+  line_drop at lines [] h = refl
+  line_drop at lines (x ∷ xs) h = line_drop (suc at) (set lines at x) xs (omega arith) ∙ drop-set-lt size lines at x (omega arith)
 
-  pub region-below : (bands : ℕ) (ls rs : List ℤ) → (bands ≡ 1 → ⊥) → RowRegion p bands size at L n lines matrix → length ls ≡ length lines → length rs ≡ length matrix →
-      RowRegion p (bands - 1) size at (2 * L) n (take (length ls - size) (drop size ls)) (take (length rs - rowPlaces) (drop rowPlaces rs))
-  region-below zero ls rs more r el er = absurd (omega (arith, r.region.some))
-  region-below (suc zero) ls rs more r el er = absurd (more refl)
-  region-below (suc (suc b)) ls rs more r el er =
-      rw (rest-is size ls, rest-is rowPlaces rs, less_one b)
+  pub region_below : (bands : ℕ) (ls rs : List ℤ) → (bands ≡ 1 → ⊥) → RowRegion p bands size at L n lines matrix → length ls ≡ length lines → length rs ≡ length matrix →
+      RowRegion p (bands - 1) size at (2 * L) n (take (length ls - size) (drop size ls)) (take (length rs - row_places) (drop row_places rs))
+  region_below zero ls rs more r el er = absurd (omega (arith, r.region.some))
+  region_below (suc zero) ls rs more r el er = absurd (more refl)
+  region_below (suc (suc b)) ls rs more r el er =
+      rw (rest_is size ls, rest_is row_places rs, less_one b)
       (record {
-        region = behind-it p size L ls b (region-same el r.region);
+        region = behind_it p size L ls b (region_same el r.region);
         short = r.short;
-        before-end = r.before-end;
-        room = rw (length-drop rowPlaces rs, er) (omega (arith, r.room));
+        before_end = r.before_end;
+        room = rw (length-drop row_places rs, er) (omega (arith, r.room));
       })
 
-  pub one-band : (bands : ℕ) → bands ≡ 1 → RowsDone (rowed p size (bands - 1) L at lines (take n matrix)) n lines matrix
+  pub one_band : (bands : ℕ) → bands ≡ 1 → RowsDone (rowed p size (bands - 1) L at lines (take n matrix)) n lines matrix
   unfolding rowed Shown
-  one-band bands e = rw e (record { places-are = refl; shown = (refl, tt) })
+  one_band bands e = rw e (record { places_are = refl; shown = (refl, tt) })
 
   pub joined : (bands : ℕ) (ls rs ys zs : List ℤ) → (bands ≡ 1 → ⊥) → RowRegion p bands size at L n lines matrix → length rs ≡ length matrix →
       LineDone (line p size L at lines (take n matrix)) 0 n matrix ls rs →
-      RowsDone (rowed p size (bands - 1 - 1) (2 * L) at (take (length ls - size) (drop size ls)) (take n (take (length rs - rowPlaces) (drop rowPlaces rs)))) n ys zs →
-      RowsDone (rowed p size (bands - 1) L at lines (take n matrix)) n (put_mid size (length ls - size) ls ys) (put_mid rowPlaces (length rs - rowPlaces) rs zs)
+      RowsDone (rowed p size (bands - 1 - 1) (2 * L) at (take (length ls - size) (drop size ls)) (take n (take (length rs - row_places) (drop row_places rs)))) n ys zs →
+      RowsDone (rowed p size (bands - 1) L at lines (take n matrix)) n (put_mid size (length ls - size) ls ys) (put_mid row_places (length rs - row_places) rs zs)
   unfolding rowed Shown
   joined zero ls rs ys zs more r er l d = absurd (omega (arith, r.region.some))
   joined (suc zero) ls rs ys zs more r er l d = absurd (more refl)
@@ -58,16 +58,16 @@ module _ (p : Prototype) (size at L n : ℕ) (lines matrix : List ℤ) where
       let x = take n matrix in
       let q = line p size L at lines x in
       let count : length x ≡ n = length-take-le n matrix (omega (arith, r.room, r.short)) in
-      let long : length ls ≡ length lines = ap length l.places-are ∙ line-length p size L at lines x in
+      let long : length ls ≡ length lines = ap length l.places_are ∙ line_length_lem p size L at lines x in
       let held : size ≤ length ls = rw long (held_of p size L lines b r.region) in
-      let behind : drop size ls ≡ drop size lines = ap (drop size) l.places-are ∙ line-drop at lines x (rw count r.before-end) in
-      let full : length (take rowPlaces rs) ≡ rowPlaces = length-take-le rowPlaces rs (omega (arith, r.room)) in
-      let below : RowsDone (rowed p size b (2 * L) at (drop size lines) q.low) n ys zs = rw (less_two b, rest-is size ls, rest-is rowPlaces rs, behind, l.low-is) at d in
-      rw (less_one b, put_is size ls ys held, put_is rowPlaces rs zs (omega (arith, r.room)))
+      let behind : drop size ls ≡ drop size lines = ap (drop size) l.places_are ∙ line_drop at lines x (rw count r.before_end) in
+      let full : length (take row_places rs) ≡ row_places = length-take-le row_places rs (omega (arith, r.room)) in
+      let below : RowsDone (rowed p size b (2 * L) at (drop size lines) q.low) n ys zs = rw (less_two b, rest_is size ls, rest_is row_places rs, behind, l.low_is) at d in
+      rw (less_one b, put_is size ls ys held, put_is row_places rs zs (omega (arith, r.room)))
       (record {
-        places-are = ap₂ (λ (u v : List ℤ). take size u ++ v) l.places-are below.places-are;
+        places_are = ap₂ (λ (u v : List ℤ). take size u ++ v) l.places_are below.places_are;
         shown = (
-          take-append-le n (take rowPlaces rs) zs (rw full r.short) ∙ l.late_is,
-          subst (λ (m : List ℤ). Shown n (rowed p size b (2 * L) at (drop size lines) q.low).rows m) (sym (drop_at (take rowPlaces rs) zs rowPlaces full)) below.shown,
+          take-append-le n (take row_places rs) zs (rw full r.short) ∙ l.late_is,
+          subst (λ (m : List ℤ). Shown n (rowed p size b (2 * L) at (drop size lines) q.low).rows m) (sym (drop_at (take row_places rs) zs row_places full)) below.shown,
         );
       })

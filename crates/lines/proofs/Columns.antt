@@ -6,18 +6,18 @@ use native.Mathlib.Omega.{arith}
 use lib.ListN.{length, get_or, drop, length-map}
 use lib.Seq.{get_or-take, get_or-drop}
 use lib.IntN.{ℤ, pos}
-use Rattle.lines.specs.Rows.{rowPlaces, Shown, Even, before, columns}
+use Rattle.lines.specs.Rows.{row_places, Shown, Even, before, columns}
 
-pub shown-at : (n i k : ℕ) (rows : List (List ℤ)) (matrix : List ℤ) → i < n → k < length rows → Shown n rows matrix →
-    get_or matrix (rowPlaces * k + i) (pos 0) ≡ get_or (get_or rows k []) i (pos 0)
+pub shown_at : (n i k : ℕ) (rows : List (List ℤ)) (matrix : List ℤ) → i < n → k < length rows → Shown n rows matrix →
+    get_or matrix (row_places * k + i) (pos 0) ≡ get_or (get_or rows k []) i (pos 0)
 unfolding Shown
-shown-at n i k [] matrix h hk sh = absurd (omega arith)
-shown-at n i zero (row ∷ rows) matrix h hk sh =
-    let none : rowPlaces * 0 + i ≡ i = omega arith in
+shown_at n i k [] matrix h hk sh = absurd (omega arith)
+shown_at n i zero (row ∷ rows) matrix h hk sh =
+    let none : row_places * 0 + i ≡ i = omega arith in
     ap (λ (j : ℕ). get_or matrix j (pos 0)) none ∙ sym (get_or-take n matrix i (pos 0) h) ∙ ap (λ (l : List ℤ). get_or l i (pos 0)) sh.0
-shown-at n i (suc k) (row ∷ rows) matrix h hk sh =
-    let on : rowPlaces * suc k + i ≡ rowPlaces + (rowPlaces * k + i) = omega arith in
-    ap (λ (j : ℕ). get_or matrix j (pos 0)) on ∙ sym (get_or-drop rowPlaces matrix (rowPlaces * k + i) (pos 0)) ∙ shown-at n i k rows (drop rowPlaces matrix) h (omega arith) sh.1
+shown_at n i (suc k) (row ∷ rows) matrix h hk sh =
+    let on : row_places * suc k + i ≡ row_places + (row_places * k + i) = omega arith in
+    ap (λ (j : ℕ). get_or matrix j (pos 0)) on ∙ sym (get_or-drop row_places matrix (row_places * k + i) (pos 0)) ∙ shown_at n i k rows (drop row_places matrix) h (omega arith) sh.1
 
 before_at : (i : ℕ) (row : List ℤ) (rest : List (List ℤ)) → i < length row → i < length rest → get_or (before row rest) i [] ≡ get_or row i (pos 0) ∷ get_or rest i []
 unfolding before
@@ -50,9 +50,9 @@ column i [] = []
 column i (row ∷ rows) = get_or row i (pos 0) ∷ column i rows
 
 -- .. is entry i of the columns
-pub column-is : (n i : ℕ) (row : List ℤ) (rows : List (List ℤ)) → i < n → Even n (row ∷ rows) → get_or (columns (row ∷ rows)) i [] ≡ column i (row ∷ rows)
+pub column_is : (n i : ℕ) (row : List ℤ) (rows : List (List ℤ)) → i < n → Even n (row ∷ rows) → get_or (columns (row ∷ rows)) i [] ≡ column i (row ∷ rows)
 unfolding columns column Even
-column-is n i row [] h e = single i row (omega (arith, e.0))
-column-is n i row (r ∷ rows) h e =
+column_is n i row [] h e = single i row (omega (arith, e.0))
+column_is n i row (r ∷ rows) h e =
     before_at i row (columns (r ∷ rows)) (omega (arith, e.0)) (omega (arith, columns-length n r rows e.1)) ∙
-    ap (λ (l : List ℤ). get_or row i (pos 0) ∷ l) (column-is n i r rows h e.1)
+    ap (λ (l : List ℤ). get_or row i (pos 0) ∷ l) (column_is n i r rows h e.1)

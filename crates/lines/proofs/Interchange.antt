@@ -10,7 +10,7 @@ use lib.ListN.{length, take, drop, set, length-set, length-drop, take-append-dro
 use lib.Seq.{take_at, drop_at, set-append_left, length-take-le}
 use lib.IntN.{ℤ}
 use Rattle.tree.specs.Prototype.{Prototype}
-use Rattle.ring.specs.Line.{lowValue, lateValue}
+use Rattle.ring.specs.Line.{low_value, late_value}
 use Rattle.lines.specs.Cascade.{step}
 use Rattle.lines.specs.Rows.{Lined, Rowed, line, rowed, before, columns, Even}
 use Rattle.ring.specs.Helpers.{Centred}
@@ -42,15 +42,15 @@ module _ (p : Prototype) (size : ℕ) where
       let r = passed k L (suc at) s.places xs in
       record { places = r.places; aligned = s.aligned ∷ r.aligned }
 
-  pub line-length : (L at : ℕ) (s xs : List ℤ) → length (line p size L at s xs).places ≡ length s
+  pub line_length_lem : (L at : ℕ) (s xs : List ℤ) → length (line p size L at s xs).places ≡ length s
   unfolding line
-  line-length L at s [] = refl
-  line-length L at s (x ∷ xs) = line-length L (suc at) (set s at x) xs ∙ length-set s at x
+  line_length_lem L at s [] = refl
+  line_length_lem L at s (x ∷ xs) = line_length_lem L (suc at) (set s at x) xs ∙ length-set s at x
 
-  pub low-length : (L at : ℕ) (s xs : List ℤ) → length (line p size L at s xs).low ≡ length xs
+  pub low_length : (L at : ℕ) (s xs : List ℤ) → length (line p size L at s xs).low ≡ length xs
   unfolding line
-  low-length L at s [] = refl
-  low-length L at s (x ∷ xs) = ap suc (low-length L (suc at) (set s at x) xs)
+  low_length L at s [] = refl
+  low_length L at s (x ∷ xs) = ap suc (low_length L (suc at) (set s at x) xs)
 
   late-length : (L at : ℕ) (s xs : List ℤ) → length (line p size L at s xs).late ≡ length xs
   unfolding line
@@ -58,16 +58,16 @@ module _ (p : Prototype) (size : ℕ) where
   late-length L at s (x ∷ xs) = ap suc (late-length L (suc at) (set s at x) xs)
 
   -- a row for each line and one below them, all as long as the row that came in
-  pub rows-count : (k L at : ℕ) (lines xs : List ℤ) → length (rowed p size k L at lines xs).rows ≡ suc k
+  pub rows_count : (k L at : ℕ) (lines xs : List ℤ) → length (rowed p size k L at lines xs).rows ≡ suc k
   unfolding rowed
-  rows-count zero L at lines xs = refl
-  rows-count (suc k) L at lines xs = ap suc (rows-count k (2 * L) at (drop size lines) (line p size L at lines xs).low)
+  rows_count zero L at lines xs = refl
+  rows_count (suc k) L at lines xs = ap suc (rows_count k (2 * L) at (drop size lines) (line p size L at lines xs).low)
 
-  pub rows-even : (k L at : ℕ) (lines xs : List ℤ) → Even (length xs) (rowed p size k L at lines xs).rows
+  pub rows_even : (k L at : ℕ) (lines xs : List ℤ) → Even (length xs) (rowed p size k L at lines xs).rows
   unfolding rowed Even
-  rows-even zero L at lines xs = (refl, tt)
-  rows-even (suc k) L at lines xs =
-      (late-length L at lines xs, rw (low-length L at lines xs) at (rows-even k (2 * L) at (drop size lines) (line p size L at lines xs).low))
+  rows_even zero L at lines xs = (refl, tt)
+  rows_even (suc k) L at lines xs =
+      (late-length L at lines xs, rw (low_length L at lines xs) at (rows_even k (2 * L) at (drop size lines) (line p size L at lines xs).low))
 
   passed_none : (L at : ℕ) (lines xs : List ℤ) → passed 0 L at lines xs ≡ record { places = lines; aligned = map (λ (x : ℤ). x ∷ []) xs }
   unfolding passed step
@@ -80,24 +80,24 @@ module _ (p : Prototype) (size : ℕ) where
   columns-below (suc k) L at row lines xs = refl
 
   module _ (is : Centred p) where
-    line-behind : (L at : ℕ) (s t xs : List ℤ) → 1 ≤ L → 2 * (p.centre * L) ≤ size → length s ≡ size → at + length xs ≤ size →
+    line_behind : (L at : ℕ) (s t xs : List ℤ) → 1 ≤ L → 2 * (p.centre * L) ≤ size → length s ≡ size → at + length xs ≤ size →
         line p size L at (s ++ t) xs ≡ behind t (line p size L at s xs)
     unfolding line
-    line-behind L at s t [] o r e h = refl
-    line-behind L at s t (x ∷ xs) o r e h =
+    line_behind L at s t [] o r e h = refl
+    line_behind L at s t (x ∷ xs) o r e h =
         rw (
           set-append_left s t at x (omega arith),
           low_same p is size L at s t x o r e (omega arith),
           late-same p is size L at s t o r e (omega arith),
-          line-behind L (suc at) (set s at x) t xs o r (length-set s at x ∙ e) (omega arith),
+          line_behind L (suc at) (set s at x) t xs o r (length-set s at x ∙ e) (omega arith),
         )
 
     -- one sample through a line and the lines below
-    step-split : (k L at : ℕ) (s t : List ℤ) (x : ℤ) → 1 ≤ L → 2 * (p.centre * L) ≤ size → length s ≡ size → at < size →
+    step_split : (k L at : ℕ) (s t : List ℤ) (x : ℤ) → 1 ≤ L → 2 * (p.centre * L) ≤ size → length s ≡ size → at < size →
         step p size (suc k) L at (s ++ t) x ≡
-        (let below = step p size k (2 * L) at t (lowValue p s size at L x) in record { places = set s at x ++ below.places; aligned = lateValue p s size at L ∷ below.aligned })
+        (let below = step p size k (2 * L) at t (low_value p s size at L x) in record { places = set s at x ++ below.places; aligned = late_value p s size at L ∷ below.aligned })
     unfolding step
-    step-split k L at s t x o r e h =
+    step_split k L at s t x o r e h =
         rw (set-append_left s t at x (omega arith), take_at (set s at x) t size (length-set s at x ∙ e), drop_at s t size e, low_same p is size L at s t x o r e h, late-same p is size L at s t o r e h)
 
     -- one level: samples in turn are the line over the row, then the lines below over its low row
@@ -106,8 +106,8 @@ module _ (p : Prototype) (size : ℕ) where
     unfolding passed line before
     interchange k L at s t [] o r e h = refl
     interchange k L at s t (x ∷ xs) o r e h =
-        let below = step p size k (2 * L) at t (lowValue p s size at L x) in
-        rw (step-split k L at s t x o r e (omega arith), interchange k L (suc at) (set s at x) below.places xs o r (length-set s at x ∙ e) (omega arith))
+        let below = step p size k (2 * L) at t (low_value p s size at L x) in
+        rw (step_split k L at s t x o r e (omega arith), interchange k L (suc at) (set s at x) below.places xs o r (length-set s at x ∙ e) (omega arith))
 
     -- the whole: what the code does by rows is what samples in turn give
     pub rows_are : (k L at : ℕ) (lines xs : List ℤ) → 1 ≤ L → p.centre * (L * 2 ^ k) ≤ size → length lines ≡ k * size → at + length xs ≤ size →
@@ -124,6 +124,6 @@ module _ (p : Prototype) (size : ℕ) where
         let once : 2 * L ≤ 2 * L * 2 ^ k = omega (arith, mul-le-mul_left (2 * L) (pow_mono {i = 0} {j = k} (omega arith))) in
         let twice : 2 * (p.centre * L) ≤ size = omega (arith, r', mul-le-mul_left p.centre once) in
         let whole : lines ≡ s ++ t = sym (take-append-drop size lines) in
-        let first : line p size L at lines xs ≡ behind t l = ap (λ (q : List ℤ). line p size L at q xs) whole ∙ line-behind L at s t xs o twice es h in
+        let first : line p size L at lines xs ≡ behind t l = ap (λ (q : List ℤ). line p size L at q xs) whole ∙ line_behind L at s t xs o twice es h in
         ap (λ (q : List ℤ). passed (suc k) L at q xs) whole ∙ interchange k L at s t xs o twice es h ∙
-        rw (rows_are k (2 * L) at t l.low (omega arith) r' (simp length-drop (omega arith)) (rw (low-length L at s xs) h), first, take_at l.places t size (line-length L at s xs ∙ es), columns-below k (2 * L) at l.late t l.low)
+        rw (rows_are k (2 * L) at t l.low (omega arith) r' (simp length-drop (omega arith)) (rw (low_length L at s xs) h), first, take_at l.places t size (line_length_lem L at s xs ∙ es), columns-below k (2 * L) at l.late t l.low)

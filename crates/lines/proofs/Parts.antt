@@ -8,7 +8,7 @@ use lib.ListN.{length, take, drop, set}
 use lib.Seq.{slice, take-take, length-take-le, drop-drop}
 use lib.IntN.{ℤ}
 use Rattle.tree.specs.Prototype.{Prototype}
-use Rattle.lines.specs.Rows.{rowPlaces, Lined, line}
+use Rattle.lines.specs.Rows.{row_places, Lined, line}
 use Rattle.lines.specs.Helpers.{Part, Between, LineDone}
 
 -- two runs one after the other
@@ -23,47 +23,47 @@ cut (suc w) (suc n) [] h = refl
 cut (suc w) (suc n) (a ∷ x) h = ap (λ (l : List ℤ). a ∷ l) (cut w n x (omega arith))
 
 -- lists that are the same from w on have the same part from w on
-same-part : (w n : ℕ) (x y : List ℤ) → length x ≡ length y → drop w x ≡ drop w y → slice w n x ≡ slice w n y
-same-part zero n x y l e = ap (take n) e
-same-part (suc w) zero x y l e = refl
-same-part (suc w) (suc n) [] [] l e = refl
-same-part (suc w) (suc n) [] (b ∷ y) l e = absurd (omega arith)
-same-part (suc w) (suc n) (a ∷ x) [] l e = absurd (omega arith)
-same-part (suc w) (suc n) (a ∷ x) (b ∷ y) l e = same-part w n x y (omega arith) e
+same_part : (w n : ℕ) (x y : List ℤ) → length x ≡ length y → drop w x ≡ drop w y → slice w n x ≡ slice w n y
+same_part zero n x y l e = ap (take n) e
+same_part (suc w) zero x y l e = refl
+same_part (suc w) (suc n) [] [] l e = refl
+same_part (suc w) (suc n) [] (b ∷ y) l e = absurd (omega arith)
+same_part (suc w) (suc n) (a ∷ x) [] l e = absurd (omega arith)
+same_part (suc w) (suc n) (a ∷ x) (b ∷ y) l e = same_part w n x y (omega arith) e
 
 module _ (p : Prototype) (size at L : ℕ) where
-  line-append : (at : ℕ) (lines xs ys : List ℤ) →
+  line_append : (at : ℕ) (lines xs ys : List ℤ) →
       line p size L at lines (xs ++ ys) ≡ (let l = line p size L at lines xs in then l (line p size L (at + length xs) l.places ys))
   unfolding line
-  line-append at lines [] ys = simp unary_clauses
-  line-append at lines (x ∷ xs) ys = rw (line-append (suc at) (set lines at x) xs ys, shift at (length xs))
+  line_append at lines [] ys = simp unary_clauses
+  line_append at lines (x ∷ xs) ys = rw (line_append (suc at) (set lines at x) xs ys, shift at (length xs))
     where
       shift : (a n : ℕ) → a + suc n ≡ suc a + n
       shift a n = omega arith
 
   -- up to w and from there to n is up to n
-  module _ (w n : ℕ) (lines m₀ ls m₁ ms m₂ : List ℤ) (ordered : w ≤ n) (short : n ≤ rowPlaces) (long₀ : rowPlaces ≤ length m₀) (long₁ : rowPlaces ≤ length m₁) where
+  module _ (w n : ℕ) (lines m₀ ls m₁ ms m₂ : List ℤ) (ordered : w ≤ n) (short : n ≤ row_places) (long₀ : row_places ≤ length m₀) (long₁ : row_places ≤ length m₁) where
     pub parts : LineDone (line p size L at lines (take w m₀)) 0 w m₀ ls m₁ →
-        LineDone (line p size L (at + w) ls (slice w n (take rowPlaces m₁))) w n m₁ ms m₂ →
+        LineDone (line p size L (at + w) ls (slice w n (take row_places m₁))) w n m₁ ms m₂ →
         LineDone (line p size L at lines (take n m₀)) 0 n m₀ ms m₂
     parts d e =
         let q = line p size L at lines (take w m₀) in
-        let row₀ : length (take rowPlaces m₀) ≡ rowPlaces = length-take-le rowPlaces m₀ long₀ in
-        let row₁ : length (take rowPlaces m₁) ≡ rowPlaces = length-take-le rowPlaces m₁ long₁ in
+        let row₀ : length (take row_places m₀) ≡ row_places = length-take-le row_places m₀ long₀ in
+        let row₁ : length (take row_places m₁) ≡ row_places = length-take-le row_places m₁ long₁ in
         let count : length (take w m₀) ≡ w = length-take-le w m₀ (omega arith) in
-        let same : slice w n (take rowPlaces m₁) ≡ slice w n (take rowPlaces m₀) =
-        same-part w n (take rowPlaces m₁) (take rowPlaces m₀) (row₁ ∙ sym row₀) d.unread in
-        let up_to : (k : ℕ) → k ≤ rowPlaces → take k (take rowPlaces m₀) ≡ take k m₀ = λ k h. take-take k rowPlaces m₀ h in
-        let cut-here : take w m₀ ++ slice w n (take rowPlaces m₁) ≡ take n m₀ =
-        ap₂ (λ (u v : List ℤ). u ++ v) (sym (up_to w (omega arith))) same ∙ cut w n (take rowPlaces m₀) ordered ∙ up_to n short in
-        let whole : line p size L at lines (take n m₀) ≡ then q (line p size L (at + w) ls (slice w n (take rowPlaces m₁))) =
-        ap (line p size L at lines) (sym cut-here) ∙ line-append at lines (take w m₀) (slice w n (take rowPlaces m₁)) ∙ rw (count, d.places-are) in
+        let same : slice w n (take row_places m₁) ≡ slice w n (take row_places m₀) =
+        same_part w n (take row_places m₁) (take row_places m₀) (row₁ ∙ sym row₀) d.unread in
+        let up_to : (k : ℕ) → k ≤ row_places → take k (take row_places m₀) ≡ take k m₀ = λ k h. take-take k row_places m₀ h in
+        let cut-here : take w m₀ ++ slice w n (take row_places m₁) ≡ take n m₀ =
+        ap₂ (λ (u v : List ℤ). u ++ v) (sym (up_to w (omega arith))) same ∙ cut w n (take row_places m₀) ordered ∙ up_to n short in
+        let whole : line p size L at lines (take n m₀) ≡ then q (line p size L (at + w) ls (slice w n (take row_places m₁))) =
+        ap (line p size L at lines) (sym cut-here) ∙ line_append at lines (take w m₀) (slice w n (take row_places m₁)) ∙ rw (count, d.places_are) in
         rw whole
         (record {
-          places-are = e.places-are;
+          places_are = e.places_are;
           late_is = e.late_is ∙ rw d.late_is;
-          low-is = e.low-is ∙ rw d.low-is;
-          unread = e.unread ∙ later (take rowPlaces m₁) (take rowPlaces m₀) w n ordered d.unread;
+          low_is = e.low_is ∙ rw d.low_is;
+          unread = e.unread ∙ later (take row_places m₁) (take row_places m₀) w n ordered d.unread;
         })
       where
         -- what is the same from w on is the same from n on
@@ -73,20 +73,20 @@ module _ (p : Prototype) (size at L : ℕ) where
             sym (ap (λ (k : ℕ). drop k x) there) ∙ sym (drop-drop (n - w) w x) ∙ ap (drop (n - w)) e ∙ drop-drop (n - w) w y ∙ ap (λ (k : ℕ). drop k y) there
 
   -- the first part, from 0
-  pub starting : (w : ℕ) (lines m₀ ls m₁ : List ℤ) → w ≤ rowPlaces → LineDone (line p size L (at + 0) lines (slice 0 w (take rowPlaces m₀))) 0 w m₀ ls m₁ →
+  pub starting : (w : ℕ) (lines m₀ ls m₁ : List ℤ) → w ≤ row_places → LineDone (line p size L (at + 0) lines (slice 0 w (take row_places m₀))) 0 w m₀ ls m₁ →
       LineDone (line p size L at lines (take w m₀)) 0 w m₀ ls m₁
   starting w lines m₀ ls m₁ h d =
       let here : at + 0 ≡ at = omega arith in
-      rw (here, take-take w rowPlaces m₀ h) at d
+      rw (here, take-take w row_places m₀ h) at d
 
 -- ---- what the parts ask
 
 module _ (p : Prototype) (size at L n : ℕ) (lines m : List ℤ) (q : Part p lines size at L 0 n m) where
-  pub part-of-row : (from to : ℕ) (ls ms : List ℤ) → from ≤ to → to ≤ n → length ls ≡ length lines → length ms ≡ length m → Part p ls size at L from to ms
-  part-of-row from to ls ms h k el em =
+  pub part_of_row : (from to : ℕ) (ls ms : List ℤ) → from ≤ to → to ≤ n → length ls ≡ length lines → length ms ≡ length m → Part p ls size at L from to ms
+  part_of_row from to ls ms h k el em =
       record {
         ordered = h;
-        before-end = omega (arith, q.before-end);
+        before_end = omega (arith, q.before_end);
         reach = q.reach;
         some = q.some;
         held = rw el q.held;

@@ -28,26 +28,26 @@ module _ (p : Prototype) (size L : ℕ) (lines : List ℤ) where
   held_of b r = omega (arith, r.whole, mul-le-mul_right {m = 1} {n = suc (suc b) - 1} size (omega arith))
 
   -- behind it stand the lines of one band fewer, the stretch doubled
-  pub behind-it : (b : ℕ) → Region p (suc (suc b)) size L lines → Region p (suc b) size (2 * L) (drop size lines)
-  behind-it b r =
+  pub behind_it : (b : ℕ) → Region p (suc (suc b)) size L lines → Region p (suc b) size (2 * L) (drop size lines)
+  behind_it b r =
       record {
         some = omega arith;
         few = omega (arith, r.few);
         stretch = omega (arith, r.stretch);
         sized = r.sized ∙ ap (λ (k : ℕ). p.centre * k) halved;
-        whole = rw (length-drop size lines, r.whole, less_one b, one-off) (omega arith);
+        whole = rw (length-drop size lines, r.whole, less_one b, one_off) (omega arith);
         small = r.small;
       }
     where
-      one-off : suc b - 1 ≡ b
-      one-off = omega arith
+      one_off : suc b - 1 ≡ b
+      one_off = omega arith
 
       halved : L * 2 ^ (suc (suc b) - 1) ≡ 2 * L * 2 ^ (suc b - 1)
-      halved = rw (less_one b, one-off, pow-succ' 2 b) (omega arith)
+      halved = rw (less_one b, one_off, pow-succ' 2 b) (omega arith)
 
 -- lines of the same length are the same region
-pub region-same : {p : Prototype} {bands size L : ℕ} {lines ls : List ℤ} → length ls ≡ length lines → Region p bands size L lines → Region p bands size L ls
-region-same e r = record { some = r.some; few = r.few; stretch = r.stretch; sized = r.sized; whole = e ∙ r.whole; small = r.small }
+pub region_same : {p : Prototype} {bands size L : ℕ} {lines ls : List ℤ} → length ls ≡ length lines → Region p bands size L lines → Region p bands size L ls
+region_same e r = record { some = r.some; few = r.few; stretch = r.stretch; sized = r.sized; whole = e ∙ r.whole; small = r.small }
 
 -- a row of the first line
 pub row_of : (p : Prototype) (size at L bands n : ℕ) (lines matrix : List ℤ) → (bands ≡ 1 → ⊥) → RowRegion p bands size at L n lines matrix → Part p lines size at L 0 n matrix
@@ -56,7 +56,7 @@ row_of p size at L (suc zero) n lines matrix more r = absurd (more refl)
 row_of p size at L (suc (suc b)) n lines matrix more r =
     record {
       ordered = omega arith;
-      before-end = r.before-end;
+      before_end = r.before_end;
       reach = reach_of p size L lines b r.region;
       some = r.region.stretch;
       held = held_of p size L lines b r.region;

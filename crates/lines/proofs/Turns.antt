@@ -19,21 +19,21 @@ after r t = record { places = t.places; position = t.position; aligned = r.align
 
 module _ (p : Prototype) (size : ℕ) where
   -- within a row the positions only count up
-  run-append : (k at : ℕ) (lines xs ys : List ℤ) → at < size → at + length xs ≤ size →
+  run_append : (k at : ℕ) (lines xs ys : List ℤ) → at < size → at + length xs ≤ size →
       run p size k at lines (xs ++ ys) ≡ (let r = passed p size k 1 at lines xs in after r (run p size k (wrapped size (at + length xs)) r.places ys))
   unfolding run passed
-  run-append k at lines [] ys o h =
+  run_append k at lines [] ys o h =
       let here : wrapped size (at + 0) ≡ at = rw (lt-ltb (at + 0) size (omega arith)) (omega arith) in
       sym (ap (λ (j : ℕ). run p size k j lines ys) here)
-  run-append k at lines (x ∷ []) ys o h = refl
-  run-append k at lines (x ∷ y ∷ xs) ys o h =
+  run_append k at lines (x ∷ []) ys o h = refl
+  run_append k at lines (x ∷ y ∷ xs) ys o h =
       let s = step p size k 1 at lines x in
       let on : next size at ≡ suc at = rw (lt-ltb (at + 1) size (omega arith)) (omega arith) in
       let r = passed p size k 1 (suc at) s.places (y ∷ xs) in
       let far : suc at + length (y ∷ xs) ≡ at + length (x ∷ y ∷ xs) = omega arith in
       ap (λ (q : Ran). record { places = q.places; position = q.position; aligned = s.aligned ∷ q.aligned })
       (ap (λ (j : ℕ). run p size k j s.places ((y ∷ xs) ++ ys)) on ∙
-      run-append k (suc at) s.places (y ∷ xs) ys (omega arith) (omega arith) ∙
+      run_append k (suc at) s.places (y ∷ xs) ys (omega arith) (omega arith) ∙
       ap (λ (j : ℕ). after r (run p size k (wrapped size j) r.places ys)) far)
 
   -- a turn of the block's loop
@@ -46,5 +46,5 @@ module _ (p : Prototype) (size : ℕ) where
         aligned = columns r.rows ++ (run p size k (wrapped size (at + length xs)) r.places ys).aligned;
       })
   turn is k at lines xs ys r e a h =
-      run-append k at lines xs ys a h ∙
+      run_append k at lines xs ys a h ∙
       ap (λ (q : Passed). after q (run p size k (wrapped size (at + length xs)) q.places ys)) (rows_are p size is k 1 at lines xs (omega arith) r e h)

@@ -2,7 +2,7 @@
 -- position `at`; the stretch of the first is L. No gain stands here: what the lines hold does not depend on any.
 use Rattle.std.specs.Prelude.{List, [], ◌∷◌, ◌++◌, ℕ, zero, suc, ◌*◌, take, drop, set, ℤ}
 use Rattle.tree.specs.Prototype.{Prototype}
-use Rattle.ring.specs.Line.{next, lowValue, lateValue}
+use Rattle.ring.specs.Line.{next, low_value, late_value}
 
 -- rules 5.7, 5.8: the places after one sample, and the aligned samples a(M), .., a(1), the top line's first
 pub record Stepped : Type 0 where
@@ -20,8 +20,8 @@ module _ (p : Prototype) (size : ℕ) where
   unfoldable pub step : ℕ → ℕ → ℕ → List ℤ → ℤ → Stepped
   step zero L at lines x = record { places = lines; aligned = x ∷ [] }
   step (suc k) L at lines x =
-      let below = step k (2 * L) at (drop size lines) (lowValue p lines size at L x) in
-      record { places = take size (set lines at x) ++ below.places; aligned = lateValue p lines size at L ∷ below.aligned }
+      let below = step k (2 * L) at (drop size lines) (low_value p lines size at L x) in
+      record { places = take size (set lines at x) ++ below.places; aligned = late_value p lines size at L ∷ below.aligned }
 
   -- rule 5.9: samples in turn, through k lines from the position `at` on
   unfoldable pub run : ℕ → ℕ → List ℤ → List ℤ → Ran

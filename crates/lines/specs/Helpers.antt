@@ -1,20 +1,20 @@
 -- Bookkeeping: what the machine's functions ask and answer (rule 13.10). They are helpers of the calls, which have judged their input.
 use Rattle.std.specs.Prelude.{◌≡◌, List, ◌++◌, ℕ, ◌+◌, ◌-◌, ◌*◌, ◌^◌, ◌≤◌, ◌<◌, length, take, drop, ℤ}
 use Rattle.tree.specs.Prototype.{Prototype}
-use Rattle.lines.specs.Rows.{rowPlaces, Lined, Rowed, Shown}
+use Rattle.lines.specs.Rows.{row_places, Lined, Rowed, Shown}
 
 -- ---- a row, in a matrix of rows
 
 -- what a part of a row asks: the samples from `from` to `to` of the first row, at the position `at` and not past the ring's end, and a row behind it
 pub record Part (p : Prototype) (lines : List ℤ) (size at L from to : ℕ) (matrix : List ℤ) : Type 0 where
   pub ordered : from ≤ to
-  pub before-end : at + to ≤ size
+  pub before_end : at + to ≤ size
   pub reach : 2 * (p.centre * L) ≤ size
   pub some : 1 ≤ L
   pub held : size ≤ length lines
   pub small : size ≤ 4608
-  pub short : to ≤ rowPlaces
-  pub room : 2 * rowPlaces ≤ length matrix
+  pub short : to ≤ row_places
+  pub room : 2 * row_places ≤ length matrix
 
 -- the places of its samples, if there are any, are from `least` on and before `end`
 abbrev pub Between : ℕ → ℕ → ℕ → ℕ → ℕ → Type 0
@@ -23,10 +23,10 @@ Between least end at from to = from < to → (least ≤ at + from) × (at + to �
 -- what it leaves: the line run over the part; its aligned samples in the first row and its low samples in the second, each behind those that
 -- stood there; the samples behind the part as they were
 pub record LineDone (l : Lined) (from to : ℕ) (matrix₀ places matrix : List ℤ) : Type 0 where
-  pub places-are : places ≡ l.places
-  pub late_is : take to (take rowPlaces matrix) ≡ take from (take rowPlaces matrix₀) ++ l.late
-  pub low-is : take to (drop rowPlaces matrix) ≡ take from (drop rowPlaces matrix₀) ++ l.low
-  pub unread : drop to (take rowPlaces matrix) ≡ drop to (take rowPlaces matrix₀)
+  pub places_are : places ≡ l.places
+  pub late_is : take to (take row_places matrix) ≡ take from (take row_places matrix₀) ++ l.late
+  pub low_is : take to (drop row_places matrix) ≡ take from (drop row_places matrix₀) ++ l.low
+  pub unread : drop to (take row_places matrix) ≡ drop to (take row_places matrix₀)
 
 -- ---- the cascade
 
@@ -42,11 +42,11 @@ pub record Region (p : Prototype) (bands size L : ℕ) (lines : List ℤ) : Type
 -- what a row of n samples through them asks: not longer than a row of the matrix, not past the ring's end, and a matrix with a row for each line
 pub record RowRegion (p : Prototype) (bands size at L n : ℕ) (lines matrix : List ℤ) : Type 0 where
   pub region : Region p bands size L lines
-  pub short : n ≤ rowPlaces
-  pub before-end : at + n ≤ size
-  pub room : rowPlaces * bands ≤ length matrix
+  pub short : n ≤ row_places
+  pub before_end : at + n ≤ size
+  pub room : row_places * bands ≤ length matrix
 
 -- what it leaves
 pub record RowsDone (r : Rowed) (n : ℕ) (places matrix : List ℤ) : Type 0 where
-  pub places-are : places ≡ r.places
+  pub places_are : places ≡ r.places
   pub shown : Shown n r.rows matrix

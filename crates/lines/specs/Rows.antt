@@ -2,11 +2,11 @@
 -- reader believes is specs/Cascade; proofs/Interchange shows that both give the same.
 use Rattle.std.specs.Prelude.{◌≡◌, cond, List, [], ◌∷◌, ◌++◌, map, ℕ, zero, suc, ◌*◌, ltb, length, take, drop, set, ℤ}
 use Rattle.tree.specs.Prototype.{Prototype}
-use Rattle.ring.specs.Line.{lowValue, lateValue}
+use Rattle.ring.specs.Line.{low_value, late_value}
 
 -- the places of a row in the matrix of rows
-abbrev pub rowPlaces : ℕ
-rowPlaces = 32
+abbrev pub row_places : ℕ
+row_places = 32
 
 -- the position at the end of a row that may reach the ring's end
 abbrev pub wrapped : ℕ → ℕ → ℕ
@@ -29,7 +29,7 @@ module _ (p : Prototype) (size : ℕ) where
   line L at lines [] = record { places = lines; low = []; late = [] }
   line L at lines (x ∷ xs) =
       let r = line L (suc at) (set lines at x) xs in
-      record { places = r.places; low = lowValue p lines size at L x ∷ r.low; late = lateValue p lines size at L ∷ r.late }
+      record { places = r.places; low = low_value p lines size at L x ∷ r.low; late = late_value p lines size at L ∷ r.late }
 
   -- through k lines: the line over the row, then the lines behind it over the low row
   unfoldable pub rowed : ℕ → ℕ → ℕ → List ℤ → List ℤ → Rowed
@@ -39,10 +39,10 @@ module _ (p : Prototype) (size : ℕ) where
       let below = rowed k (2 * L) at (drop size lines) l.low in
       record { places = take size l.places ++ below.places; rows = l.late ∷ below.rows }
 
--- rows of n samples in a matrix, `rowPlaces` each
+-- rows of n samples in a matrix, `row_places` each
 unfoldable pub Shown : ℕ → List (List ℤ) → List ℤ → Type 0
 Shown n [] matrix = Unit {0}
-Shown n (row ∷ rows) matrix = (take n matrix ≡ row) × Shown n rows (drop rowPlaces matrix)
+Shown n (row ∷ rows) matrix = (take n matrix ≡ row) × Shown n rows (drop row_places matrix)
 
 -- rows of the same length
 unfoldable pub Even : ℕ → List (List ℤ) → Type 0

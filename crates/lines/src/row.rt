@@ -3,7 +3,7 @@
 ghost use Rattle.std.specs.Prelude.{◌≡◌, ◌+◌, ◌*◌, ◌-◌, min, take};
 ghost use Rattle.std.proofs.Math.Seq.{slice};
 ghost use Rattle.tree.specs.Prototype.{published};
-ghost use Rattle.lines.specs.Rows.{rowPlaces, line};
+ghost use Rattle.lines.specs.Rows.{row_places, line};
 ghost use Rattle.lines.specs.Helpers.{Between, Part, LineDone};
 
 use ring::line::{late_value, low_far, low_near, low_straight};
@@ -23,7 +23,7 @@ fn near(
     rows: &mut [i32],
 )
     requires { Part published lines.old size at l from to rows.old × Between 0 (9 * l) at from to }
-    ensures { LineDone (line published size l (at + from) lines.old (slice from to (take rowPlaces rows.old))) from to rows.old lines.new rows.new }
+    ensures { LineDone (line published size l (at + from) lines.old (slice from to (take row_places rows.old))) from to rows.old lines.new rows.new }
 {
     let mut i = from;
     while i < to {
@@ -46,7 +46,7 @@ fn far(
     rows: &mut [i32],
 )
     requires { Part published lines.old size at l from to rows.old × Between (9 * l) (18 * l) at from to }
-    ensures { LineDone (line published size l (at + from) lines.old (slice from to (take rowPlaces rows.old))) from to rows.old lines.new rows.new }
+    ensures { LineDone (line published size l (at + from) lines.old (slice from to (take row_places rows.old))) from to rows.old lines.new rows.new }
 {
     let mut i = from;
     while i < to {
@@ -69,7 +69,7 @@ fn straight(
     rows: &mut [i32],
 )
     requires { Part published lines.old size at l from to rows.old × Between (18 * l) size at from to }
-    ensures { LineDone (line published size l (at + from) lines.old (slice from to (take rowPlaces rows.old))) from to rows.old lines.new rows.new }
+    ensures { LineDone (line published size l (at + from) lines.old (slice from to (take row_places rows.old))) from to rows.old lines.new rows.new }
 {
     let mut i = from;
     while i < to {

@@ -10,13 +10,13 @@ use lib.Signed.{non_neg}
 use mir.Syntax.{w32}
 use mir.Val.{SFits, to_z, of_z}
 use Rattle.answers.specs.Range.{within}
-use Rattle.answers.specs.Unit.{fewestBands, mostBands, fewestChannels, mostChannels}
-use Rattle.answers.proofs.Ranges.{within-ends}
-use Rattle.answers.proofs.Branches.{within-is}
+use Rattle.answers.specs.Unit.{fewest_bands, most_bands, fewest_channels, most_channels}
+use Rattle.answers.proofs.Ranges.{within_ends}
+use Rattle.answers.proofs.Branches.{within_is}
 use Rattle.whole.proofs.Signed.{up, down, le_z_yes, lt_z_no}
 
-pub within-parts : (lo hi z : ℤ) → within lo hi z ≡ true → (up lo + down z ≤ up z + down lo) × (up z + down hi ≤ up hi + down z)
-within-parts lo hi z e = (lt_z_no z lo (within-ends lo hi z e).0, le_z_yes z hi (within-ends lo hi z e).1)
+pub within_parts : (lo hi z : ℤ) → within lo hi z ≡ true → (up lo + down z ≤ up z + down lo) × (up z + down hi ≤ up hi + down z)
+within_parts lo hi z e = (lt_z_no z lo (within_ends lo hi z e).0, le_z_yes z hi (within_ends lo hi z e).1)
 
 -- an allowed count
 pub record Count (least most : ℕ) (z : ℤ) : Type 0 where
@@ -24,25 +24,25 @@ pub record Count (least most : ℕ) (z : ℤ) : Type 0 where
   pub from : least ≤ nat_abs z
   pub to : nat_abs z ≤ most
 
-pub count-of : (least most : ℕ) (z : ℤ) → within (pos (suc least)) (pos most) z ≡ true → Count (suc least) most z
-count-of least most z e = by z (within-parts (pos (suc least)) (pos most) z e)
+pub count_of_lem : (least most : ℕ) (z : ℤ) → within (pos (suc least)) (pos most) z ≡ true → Count (suc least) most z
+count_of_lem least most z e = by z (within_parts (pos (suc least)) (pos most) z e)
   where
     by : (z : ℤ) → (suc least + down z ≤ up z + 0) × (up z + 0 ≤ most + down z) → Count (suc least) most z
     by (pos n) h = record { not_negative = tt; from = omega arith; to = omega arith }
     by (negsuc n) h = absurd (omega arith)
 
 -- 2 to 10 bands
-pub bands-of : (z : ℤ) → within fewestBands mostBands z ≡ true → Count 2 10 z
-bands-of = count-of 1 10
+pub bands_of : (z : ℤ) → within fewest_bands most_bands z ≡ true → Count 2 10 z
+bands_of = count_of_lem 1 10
 
 -- one or two channels
-pub channels-of : (z : ℤ) → within fewestChannels mostChannels z ≡ true → Count 1 2 z
-channels-of = count-of 0 2
+pub channels_of_lem : (z : ℤ) → within fewest_channels most_channels z ≡ true → Count 1 2 z
+channels_of_lem = count_of_lem 0 2
 
 -- ---- .. as a call told it, of a number that the machine hands on as its bits
 
-pub bands-told : {z : ℤ} {r : Bool} → SFits w32 z → r ≡ within fewestBands mostBands (to_z w32 (of_z w32 z)) → not r ≡ false → Count 2 10 z
-bands-told {z} {r} f e d = bands-of z (within-is fewestBands mostBands f e (not-false r d))
+pub bands_told : {z : ℤ} {r : Bool} → SFits w32 z → r ≡ within fewest_bands most_bands (to_z w32 (of_z w32 z)) → not r ≡ false → Count 2 10 z
+bands_told {z} {r} f e d = bands_of z (within_is fewest_bands most_bands f e (not-false r d))
 
-pub channels-told : {z : ℤ} {r : Bool} → SFits w32 z → r ≡ within fewestChannels mostChannels (to_z w32 (of_z w32 z)) → not r ≡ false → Count 1 2 z
-channels-told {z} {r} f e d = channels-of z (within-is fewestChannels mostChannels f e (not-false r d))
+pub channels_told : {z : ℤ} {r : Bool} → SFits w32 z → r ≡ within fewest_channels most_channels (to_z w32 (of_z w32 z)) → not r ≡ false → Count 1 2 z
+channels_told {z} {r} f e d = channels_of_lem z (within_is fewest_channels most_channels f e (not-false r d))

@@ -7,31 +7,31 @@ use Rattle.octave.specs.declared.memory.Fault as fault
 use Rattle.octave.specs.declared.block.Blocked as blocked
 
 -- rule 6.8, memory length
-abbrev pub lengthAnswer : length.Length → Answer ℕ
-lengthAnswer (length.TheVariants.Places n) = accepted n
-lengthAnswer length.TheVariants.BandCount = refused 1 0
-lengthAnswer length.TheVariants.ChannelCount = refused 9 0
+abbrev pub length_answer : length.Length → Answer ℕ
+length_answer (length.TheVariants.Places n) = accepted n
+length_answer length.TheVariants.BandCount = refused 1 0
+length_answer length.TheVariants.ChannelCount = refused 9 0
 
 -- rule 6.8, prepare
-abbrev pub preparedAnswer : prepared.Prepared → Answer ℕ
-preparedAnswer (prepared.TheVariants.Delay t) = accepted t
-preparedAnswer prepared.TheVariants.BandCount = refused 1 0
-preparedAnswer prepared.TheVariants.ChannelCount = refused 9 0
-preparedAnswer prepared.TheVariants.MemoryLength = refused 2 0
+abbrev pub prepared_answer : prepared.Prepared → Answer ℕ
+prepared_answer (prepared.TheVariants.Delay t) = accepted t
+prepared_answer prepared.TheVariants.BandCount = refused 1 0
+prepared_answer prepared.TheVariants.ChannelCount = refused 9 0
+prepared_answer prepared.TheVariants.MemoryLength = refused 2 0
 
 -- rule 6.8, block: the number of what is wrong with a lent memory
-abbrev pub faultNumber : fault.Fault → ℕ
-faultNumber fault.TheVariants.CountWrong = 31
-faultNumber fault.TheVariants.LengthWrong = 32
-faultNumber fault.TheVariants.PositionOutside = 33
+abbrev pub fault_number : fault.Fault → ℕ
+fault_number fault.TheVariants.CountWrong = 31
+fault_number fault.TheVariants.LengthWrong = 32
+fault_number fault.TheVariants.PositionOutside = 33
 
 -- rule 6.8, block: 8 alone has a place, that of the sample
-abbrev pub blockAnswer : blocked.Blocked → Answer ℕ
-blockAnswer (blocked.TheVariants.Written n) = accepted n
-blockAnswer (blocked.TheVariants.Memory f) = refused (faultNumber f) 0
-blockAnswer blocked.TheVariants.GainCount = refused 4 0
-blockAnswer blocked.TheVariants.Gain = refused 5 0
-blockAnswer blocked.TheVariants.OutputLength = refused 6 0
-blockAnswer blocked.TheVariants.PartFrame = refused 6 0
-blockAnswer blocked.TheVariants.TooLong = refused 7 0
-blockAnswer (blocked.TheVariants.Sample i) = refused 8 i
+abbrev pub block_answer : blocked.Blocked → Answer ℕ
+block_answer (blocked.TheVariants.Written n) = accepted n
+block_answer (blocked.TheVariants.Memory f) = refused (fault_number f) 0
+block_answer blocked.TheVariants.GainCount = refused 4 0
+block_answer blocked.TheVariants.Gain = refused 5 0
+block_answer blocked.TheVariants.OutputLength = refused 6 0
+block_answer blocked.TheVariants.PartFrame = refused 6 0
+block_answer blocked.TheVariants.TooLong = refused 7 0
+block_answer (blocked.TheVariants.Sample i) = refused 8 i

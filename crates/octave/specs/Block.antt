@@ -1,48 +1,48 @@
 -- The block call, for all inputs.
 use Rattle.std.specs.Prelude.{List, [], ◌∷◌, ℕ, ◌-◌, ◌/◌, ◌%◌, eqb, leb, length, ℤ, pos, nat_abs}
 use Rattle.answers.specs.Checks.{Check, check, Outcome, decide}
-use Rattle.answers.specs.Range.{firstOutside, allWithin}
-use Rattle.answers.specs.Unit.{leastSample, mostSample, largestGain, blockLimit}
+use Rattle.answers.specs.Range.{first_outside, all_within}
+use Rattle.answers.specs.Unit.{least_sample, most_sample, largest_gain, block_limit}
 use Rattle.frames.specs.Frames.{side_of, woven, behind, places_of}
 use Rattle.tree.specs.Prototype.{published}
-use Rattle.tree.specs.Signal.{gainOf}
+use Rattle.tree.specs.Signal.{gain_of}
 use Rattle.octave.specs.declared.block.Blocked.{Blocked}
 use Rattle.octave.specs.declared.block.Blocked.TheVariants.{Written, Memory, GainCount, Gain, OutputLength, PartFrame, TooLong, Sample}
 use Rattle.lines.specs.Cascade.{Ran, run}
-use Rattle.octave.specs.Memory.{lineLength, sidePlaces, heldIn, memoryOf, bandsIn, channelsIn, accepts, faultOf}
+use Rattle.octave.specs.Memory.{line_length, side_places, held_in, memory_of, bands_in, channels_in, accepts, fault_of}
 use Rattle.weighing.specs.Weighing.{outputs}
 
 -- rule 1.11: the frames of a block that a memory is for
-abbrev pub framesOf : (memory input : List ℤ) → ℕ
-framesOf memory input = length input / channelsIn memory
+abbrev pub frames_of : (memory input : List ℤ) → ℕ
+frames_of memory input = length input / channels_in memory
 
 -- rule 6.8, block: its checks in order; 8 tells the place of the first bad sample
-abbrev pub blockChecks : (memory gains input output : List ℤ) → List (Check Blocked)
-blockChecks memory gains input output =
-    check (accepts memory) (Memory (faultOf memory)) ∷
-    check (eqb (length gains) (bandsIn memory)) GainCount ∷
-    check (allWithin (pos 0) (pos largestGain) gains) Gain ∷
+abbrev pub block_checks : (memory gains input output : List ℤ) → List (Check Blocked)
+block_checks memory gains input output =
+    check (accepts memory) (Memory (fault_of memory)) ∷
+    check (eqb (length gains) (bands_in memory)) GainCount ∷
+    check (all_within (pos 0) (pos largest_gain) gains) Gain ∷
     check (eqb (length output) (length input)) OutputLength ∷
-    check (eqb (length input % channelsIn memory) 0) PartFrame ∷
-    check (leb (framesOf memory input) blockLimit) TooLong ∷
-    check (allWithin leastSample mostSample input) (Sample (firstOutside leastSample mostSample input)) ∷ []
+    check (eqb (length input % channels_in memory) 0) PartFrame ∷
+    check (leb (frames_of memory input) block_limit) TooLong ∷
+    check (all_within least_sample most_sample input) (Sample (first_outside least_sample most_sample input)) ∷ []
 
 -- rule 5.9: one side's samples through its own lines in turn, from the position on
-abbrev pub ranSide : (memory input : List ℤ) → (s : ℕ) → Ran
-ranSide memory input s =
-    let M = bandsIn memory in
-    run published (lineLength M) (M - 1) (nat_abs (heldIn memory).position) (places_of (sidePlaces M) s (heldIn memory).lines) (side_of (channelsIn memory) s input)
+abbrev pub ran_side : (memory input : List ℤ) → (s : ℕ) → Ran
+ran_side memory input s =
+    let M = bands_in memory in
+    run published (line_length M) (M - 1) (nat_abs (held_in memory).position) (places_of (side_places M) s (held_in memory).lines) (side_of (channels_in memory) s input)
 
 -- rule 5.9: memory and output after the samples of every side; the position moves once a frame
 abbrev pub equalised : (memory gains input : List ℤ) → List ℤ × List ℤ
 equalised memory gains input =
-    let c = channelsIn memory in
-    let r = ranSide memory input in (
-      memoryOf (record { count = pos (bandsIn memory); channels = pos c; position = pos (r 0).position; lines = behind c (λ s. (r s).places) }),
-      woven c (framesOf memory input) (λ s. outputs (λ _. gainOf gains) (r s).aligned),
+    let c = channels_in memory in
+    let r = ran_side memory input in (
+      memory_of (record { count = pos (bands_in memory); channels = pos c; position = pos (r 0).position; lines = behind c (λ s. (r s).places) }),
+      woven c (frames_of memory input) (λ s. outputs (λ _. gain_of gains) (r s).aligned),
     )
 
 -- rule 6.7: the call answers the number of frames; memory and output are the places lent to it
 abbrev pub block_of : (memory gains input output : List ℤ) → Outcome Blocked (List ℤ × List ℤ)
 block_of memory gains input output =
-    decide (blockChecks memory gains input output) (memory, output) (Written (framesOf memory input)) (equalised memory gains input)
+    decide (block_checks memory gains input output) (memory, output) (Written (frames_of memory input)) (equalised memory gains input)

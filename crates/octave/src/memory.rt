@@ -1,7 +1,7 @@
 // The line memory: its length for a band count and a channel count, preparing it, and judging a lent one.
 ghost use Rattle.std.specs.Prelude.{◌≡◌};
 ghost use Rattle.answers.specs.Checks.{Done};
-ghost use Rattle.octave.specs.Memory.{memoryLengthOf, prepareOf, keptOf};
+ghost use Rattle.octave.specs.Memory.{memory_length_of, prepare_of, kept_of};
 ghost use Rattle.octave.specs.Helpers.{CountsKept};
 
 use crate::layout::{CHANNELS, COUNT, POSITION, line_length, whole_length};
@@ -43,7 +43,7 @@ pub enum Kept {
 
 // The memory length for the counts, so that a caller can lend the right number of places.
 pub fn memory_length(bands: i32, channels: i32) -> Length
-    ensures { result ≡ memoryLengthOf bands channels }
+    ensures { result ≡ memory_length_of bands channels }
 {
     if !within(FEWEST_BANDS, MOST_BANDS, bands) {
         return Length::BandCount;
@@ -56,7 +56,7 @@ pub fn memory_length(bands: i32, channels: i32) -> Length
 
 // Fills the memory for an empty history and answers the delay.
 pub fn prepare(bands: i32, channels: i32, memory: &mut [i32]) -> Prepared
-    ensures { Done (prepareOf bands channels memory.old) result memory.new }
+    ensures { Done (prepare_of bands channels memory.old) result memory.new }
 {
     if !within(FEWEST_BANDS, MOST_BANDS, bands) {
         return Prepared::BandCount;
@@ -77,7 +77,7 @@ pub fn prepare(bands: i32, channels: i32, memory: &mut [i32]) -> Prepared
 // Judges a memory of allowed counts: its length, then its position.
 fn judge_places(memory: &[i32], bands: usize, channels: usize) -> Kept
     requires { CountsKept bands channels memory.now }
-    ensures { result ≡ keptOf memory.now }
+    ensures { result ≡ kept_of memory.now }
 {
     if memory.len() != whole_length(bands, channels) {
         return Kept::Wrong(Fault::LengthWrong);
@@ -94,7 +94,7 @@ fn judge_places(memory: &[i32], bands: usize, channels: usize) -> Kept
 
 // Judges a lent memory: its counts, then its length, then its position.
 pub fn judge(memory: &[i32]) -> Kept
-    ensures { result ≡ keptOf memory.now }
+    ensures { result ≡ kept_of memory.now }
 {
     if memory.len() < POSITION {
         return Kept::Wrong(Fault::CountWrong);

@@ -3,6 +3,6 @@ use Rattle.std.specs.Prelude.{ℕ, Float}
 use Rattle.answers.specs.Answer.{Answer, accepted, refused}
 
 -- rule 12.9: the float goes to the lent place; the answer is the number of places, 1
-abbrev pub ofFloated : Answer Float → Answer ℕ
-ofFloated (accepted x) = accepted 1
-ofFloated (refused number place) = refused number place
+abbrev pub of_floated : Answer Float → Answer ℕ
+of_floated (accepted x) = accepted 1
+of_floated (refused number place) = refused number place

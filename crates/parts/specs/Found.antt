@@ -4,6 +4,6 @@ use Rattle.answers.specs.Answer.{Answer, accepted, refused}
 use Rattle.wave.specs.Walk.{Found}
 
 -- rule 12.7: what was found goes to the lent places; the answer is their number, 5
-abbrev pub ofFound : Answer Found → Answer ℕ
-ofFound (accepted f) = accepted 5
-ofFound (refused number place) = refused number place
+abbrev pub of_found : Answer Found → Answer ℕ
+of_found (accepted f) = accepted 5
+of_found (refused number place) = refused number place

@@ -1,13 +1,13 @@
 // The answers of the sample codec.
 ghost use Rattle.std.specs.Prelude.{pos};
-ghost use Rattle.samples.specs.Sample.{sampleAnswer, putAnswer};
+ghost use Rattle.samples.specs.Sample.{sample_answer, put_answer};
 ghost use Rattle.encoding.specs.Parts.{Parts};
 
 use encoding::code::{CountParts, SignedParts};
 use samples::{Put, Sample};
 
 pub fn sample_parts(answer: Sample) -> SignedParts
-    ensures { Parts (pos 0) (sampleAnswer answer) result.0 result.1 result.2 }
+    ensures { Parts (pos 0) (sample_answer answer) result.0 result.1 result.2 }
 {
     match answer {
         Sample::Is(z) => SignedParts(0, 0, z),
@@ -16,7 +16,7 @@ pub fn sample_parts(answer: Sample) -> SignedParts
 }
 
 pub fn put_parts(answer: Put) -> CountParts
-    ensures { Parts 0 (putAnswer answer) result.0 result.1 result.2 }
+    ensures { Parts 0 (put_answer answer) result.0 result.1 result.2 }
 {
     match answer {
         Put::Done(n) => CountParts(0, 0, n),

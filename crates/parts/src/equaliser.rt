@@ -1,6 +1,6 @@
 // The answers of the equaliser's calls.
 ghost use Rattle.std.specs.Prelude.{◌≡◌};
-ghost use Rattle.octave.specs.Answer.{lengthAnswer, preparedAnswer, faultNumber, blockAnswer};
+ghost use Rattle.octave.specs.Answer.{length_answer, prepared_answer, fault_number, block_answer};
 ghost use Rattle.encoding.specs.Parts.{Parts};
 
 use encoding::code::CountParts;
@@ -8,7 +8,7 @@ use octave::block::Blocked;
 use octave::memory::{Fault, Length, Prepared};
 
 pub fn length_parts(answer: Length) -> CountParts
-    ensures { Parts 0 (lengthAnswer answer) result.0 result.1 result.2 }
+    ensures { Parts 0 (length_answer answer) result.0 result.1 result.2 }
 {
     match answer {
         Length::Places(n) => CountParts(0, 0, n),
@@ -18,7 +18,7 @@ pub fn length_parts(answer: Length) -> CountParts
 }
 
 pub fn prepared_parts(answer: Prepared) -> CountParts
-    ensures { Parts 0 (preparedAnswer answer) result.0 result.1 result.2 }
+    ensures { Parts 0 (prepared_answer answer) result.0 result.1 result.2 }
 {
     match answer {
         Prepared::Delay(t) => CountParts(0, 0, t),
@@ -30,7 +30,7 @@ pub fn prepared_parts(answer: Prepared) -> CountParts
 
 // The number of what is wrong with a lent memory.
 pub(crate) fn fault_number(fault: Fault) -> u8
-    ensures { result ≡ faultNumber fault }
+    ensures { result ≡ fault_number fault }
 {
     match fault {
         Fault::CountWrong => 31,
@@ -40,7 +40,7 @@ pub(crate) fn fault_number(fault: Fault) -> u8
 }
 
 pub fn block_parts(answer: Blocked) -> CountParts
-    ensures { Parts 0 (blockAnswer answer) result.0 result.1 result.2 }
+    ensures { Parts 0 (block_answer answer) result.0 result.1 result.2 }
 {
     match answer {
         Blocked::Written(n) => CountParts(0, 0, n),

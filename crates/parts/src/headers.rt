@@ -1,7 +1,7 @@
 // The answers of the WAVE header's calls.
-ghost use Rattle.wave_writer.specs.Header.{writeAnswer};
-ghost use Rattle.wave.specs.Walk.{readAnswer};
-ghost use Rattle.parts.specs.Found.{ofFound};
+ghost use Rattle.wave_writer.specs.Header.{write_answer};
+ghost use Rattle.wave.specs.Walk.{read_answer};
+ghost use Rattle.parts.specs.Found.{of_found};
 ghost use Rattle.encoding.specs.Parts.{Parts};
 
 use encoding::code::CountParts;
@@ -9,7 +9,7 @@ use wave::Reading;
 use wave_writer::Written;
 
 pub fn read_parts(answer: Reading) -> CountParts
-    ensures { Parts 0 (ofFound (readAnswer answer)) result.0 result.1 result.2 }
+    ensures { Parts 0 (of_found (read_answer answer)) result.0 result.1 result.2 }
 {
     match answer {
         Reading::Accepted {
@@ -24,7 +24,7 @@ pub fn read_parts(answer: Reading) -> CountParts
 }
 
 pub fn write_parts(answer: Written) -> CountParts
-    ensures { Parts 0 (writeAnswer answer) result.0 result.1 result.2 }
+    ensures { Parts 0 (write_answer answer) result.0 result.1 result.2 }
 {
     match answer {
         Written::Header(n) => CountParts(0, 0, n),

@@ -1,5 +1,5 @@
 // The answer of the crossover call.
-ghost use Rattle.crossover.specs.Answer.{crossAnswer};
+ghost use Rattle.crossover.specs.Answer.{cross_answer};
 ghost use Rattle.encoding.specs.Parts.{Parts};
 
 use crate::equaliser::fault_number;
@@ -7,7 +7,7 @@ use crossover::cross::Crossed;
 use encoding::code::CountParts;
 
 pub fn crossed_parts(answer: Crossed) -> CountParts
-    ensures { Parts 0 (crossAnswer answer) result.0 result.1 result.2 }
+    ensures { Parts 0 (cross_answer answer) result.0 result.1 result.2 }
 {
     match answer {
         Crossed::Written(n) => CountParts(0, 0, n),

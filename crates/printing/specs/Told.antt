@@ -9,5 +9,5 @@ numbered (printing.TheVariants.Accepted n) = accepted n
 numbered (printing.TheVariants.Refused n) = refused n 0
 
 -- rule 6.8: an answer by the number of its refusal, 0 where there is none, and its value
-abbrev pub byNumber : (number value : ℕ) → Answer ℕ
-byNumber number value = cond (eqb number 0) (accepted value) (refused number 0)
+abbrev pub by_number : (number value : ℕ) → Answer ℕ
+by_number number value = cond (eqb number 0) (accepted value) (refused number 0)

@@ -11,6 +11,6 @@ abbrev pub add : ℕ → ℕ → ℤ → ℕ
 add sum i z = (sum + code z * (i % 1009 + 1)) % 4294967291
 
 -- rule 13.11: the places from index i on, added to a sum
-unfoldable pub totalFrom : ℕ → ℕ → List ℤ → ℕ
-totalFrom sum i [] = sum
-totalFrom sum i (z ∷ s) = totalFrom (add sum i z) (i + 1) s
+unfoldable pub total_from : ℕ → ℕ → List ℤ → ℕ
+total_from sum i [] = sum
+total_from sum i (z ∷ s) = total_from (add sum i z) (i + 1) s

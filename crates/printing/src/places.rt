@@ -1,7 +1,7 @@
 // Lists of places: a part, how two differ, and a list on standard output.
 ghost use Rattle.std.specs.Prelude.{◌≤◌, ◌<◌, ◌^◌, min, ◌≡◌, length};
 ghost use Rattle.printing.specs.Part.{Front};
-ghost use Rattle.printing.specs.Total.{code as Total·code, add as Total·add, totalFrom};
+ghost use Rattle.printing.specs.Total.{code as Total·code, add as Total·add, total_from};
 
 use crate::{count, field, magnitude, signed_field, text};
 use whole::counts::least;
@@ -53,7 +53,7 @@ fn added(sum: u64, i: usize, z: i32) -> u64
 
 // Every place counts, each with a weight of its index, modulo the largest prime below 2^32.
 fn total(s: &[i32]) -> u64
-    ensures { result ≡ totalFrom 0 0 s.now }
+    ensures { result ≡ total_from 0 0 s.now }
 {
     let mut sum: u64 = 0;
     for i in 0..s.len() {

@@ -22,17 +22,17 @@ pub sum_fits : {k : ℕ} {z r : ℤ} → k ≤ 2 ^ 15 → Sum k z r → SFits w6
 sum_fits {k} {z} {r} h s = record { sfits = omega (arith, about r, s.size) }
 
 -- as the machine hands it on
-pub sum-raw : {k : ℕ} {z r : ℤ} → k ≤ 2 ^ 15 → Sum k z r → raw w64 r ≡ z
-sum-raw h s = to_z-of_z (sum_fits h s) ∙ s.value
+pub sum_raw : {k : ℕ} {z r : ℤ} → k ≤ 2 ^ 15 → Sum k z r → raw w64 r ≡ z
+sum_raw h s = to_z-of_z (sum_fits h s) ∙ s.value
 
-pub sum-small : {k : ℕ} {z r : ℤ} (B : ℕ) → k ≤ 2 ^ 15 → k * 2 ^ 47 ≤ B → Sum k z r → nat_abs (raw w64 r) ≤ B
-sum-small B h l s = rw (to_z-of_z (sum_fits h s)) (le_trans s.size l)
+pub sum_small : {k : ℕ} {z r : ℤ} (B : ℕ) → k ≤ 2 ^ 15 → k * 2 ^ 47 ≤ B → Sum k z r → nat_abs (raw w64 r) ≤ B
+sum_small B h l s = rw (to_z-of_z (sum_fits h s)) (le_trans s.size l)
 
 -- c·x is added; x is the sum of so many places
 added : {k : ℕ} {z s r : ℤ} (places : ℕ) (c x : ℤ) → k ≤ 2 ^ 15 → Sum k z s → nat_abs c ≤ 2 ^ 16 → nat_abs x ≤ places * 2 ^ 31 →
     r ≡ raw w64 s +ℤ c *ℤ x → Sum (k + places) (z +ℤ c *ℤ x) r
 added {k} {z} {s} {r} places c x h before small size e =
-    let v : r ≡ z +ℤ c *ℤ x = e ∙ ap (λ (a : ℤ). a +ℤ c *ℤ x) (sum-raw h before) in
+    let v : r ≡ z +ℤ c *ℤ x = e ∙ ap (λ (a : ℤ). a +ℤ c *ℤ x) (sum_raw h before) in
     record {
       value = v;
       size =
@@ -52,9 +52,9 @@ pub more : {k : ℕ} {z s r : ℤ} (c : ℤ) {x : ℤ} → k ≤ 2 ^ 15 → Sum 
 more c {x} h before small f e = added 1 c x h before small (nat_abs-le x f.sfits) (rw (to_z-of_z f) at e)
 
 -- .. a pair of places
-pub more-pair : {k : ℕ} {z s r : ℤ} (c : ℤ) {a b : ℤ} → k ≤ 2 ^ 15 → Sum k z s → nat_abs c ≤ 2 ^ 16 → SFits w32 a → SFits w32 b →
+pub more_pair : {k : ℕ} {z s r : ℤ} (c : ℤ) {a b : ℤ} → k ≤ 2 ^ 15 → Sum k z s → nat_abs c ≤ 2 ^ 16 → SFits w32 a → SFits w32 b →
     r ≡ raw w64 s +ℤ c *ℤ (raw w32 a +ℤ raw w32 b) → Sum (k + 2) (z +ℤ c *ℤ (a +ℤ b)) r
-more-pair c {a} {b} h before small fa fb e = added 2 c (a +ℤ b) h before small (pair_size fa fb) (rw (to_z-of_z fa, to_z-of_z fb) at e)
+more_pair c {a} {b} h before small fa fb e = added 2 c (a +ℤ b) h before small (pair_size fa fb) (rw (to_z-of_z fa, to_z-of_z fb) at e)
 
 -- before the first product
 pub none : Sum 0 (pos 0) (pos 0)

@@ -10,27 +10,27 @@ use borrow.Author.Tests.{leb-true, leb-false}
 use lib.Dec.{leb, lit≤}
 use lib.ListN.{length, get_or-append}
 use lib.IntN.{ℤ, pos, ◌*ℤ◌}
-use Rattle.answers.specs.Unit.{leastPlace, mostPlace}
+use Rattle.answers.specs.Unit.{least_place, most_place}
 use Rattle.whole.specs.Nearest.{nearest}
 use Rattle.whole.specs.Limit.{limit}
 use Rattle.whole.proofs.Sums.{sum-ext}
 use Rattle.tree.specs.Prototype.{Prototype, scale, coefficient, taps, published}
-use Rattle.ring.specs.Line.{place, ago, tap, lineSum, lowValue, lateValue}
+use Rattle.ring.specs.Line.{place, ago, tap, line_sum, low_value, late_value}
 use Rattle.ring.specs.Helpers.{Centred}
 
 -- the rings hold the prototype in use
-pub published-centred : Centred published
-published-centred = record { reach = lit≤ tt; some = lit≤ tt }
+pub published_centred : Centred published
+published_centred = record { reach = lit≤ tt; some = lit≤ tt }
 
-pub place-cases : (size at d : ℕ) (P : ℕ → Type 0) → (d ≤ at → P (at - d)) → (at < d → P (at + size - d)) → P (place size at d)
-place-cases size at d P inside around = by (leb d at) refl
+pub place_cases : (size at d : ℕ) (P : ℕ → Type 0) → (d ≤ at → P (at - d)) → (at < d → P (at + size - d)) → P (place size at d)
+place_cases size at d P inside around = by (leb d at) refl
   where
     by : (t : Bool) → leb d at ≡ t → P (cond t (at - d) (at + size - d))
     by true e = inside (leb-true d at e)
     by false e = around (leb-false d at e)
 
 pub place_inside : (size at d : ℕ) → 1 ≤ d → d ≤ size → at < size → place size at d < size
-place_inside size at d l h i = place-cases size at d (λ k. k < size) (λ q. omega arith) (λ q. omega arith)
+place_inside size at d l h i = place_cases size at d (λ k. k < size) (λ q. omega arith) (λ q. omega arith)
 
 ago-same : (size at d : ℕ) (s t : List ℤ) → 1 ≤ d → d ≤ size → length s ≡ size → at < size → ago (s ++ t) size at d ≡ ago s size at d
 ago-same size at d s t o r e h = get_or-append s t (pos 0) (place size at d) (rw e (place_inside size at d o r h))
@@ -47,13 +47,13 @@ module _ (p : Prototype) (is : Centred p) (size : ℕ) where
   tap-same L at s t x o r e h (suc i) l = ago-same size at (L * suc i) s t (mul-le-mul {n₁ = 1} {m₁ = 1} o (omega arith)) (tap-within L i l r) e h
 
   pub low_same : (L at : ℕ) (s t : List ℤ) (x : ℤ) → 1 ≤ L → 2 * (p.centre * L) ≤ size → length s ≡ size → at < size →
-      lowValue p (s ++ t) size at L x ≡ lowValue p s size at L x
-  unfolding lowValue lineSum
+      low_value p (s ++ t) size at L x ≡ low_value p s size at L x
+  unfolding low_value line_sum
   low_same L at s t x o r e h =
-      ap (λ (z : ℤ). limit leastPlace mostPlace (nearest scale z))
+      ap (λ (z : ℤ). limit least_place most_place (nearest scale z))
       (sum-ext (taps p) (λ i l. ap (λ (z : ℤ). coefficient p i *ℤ z) (tap-same L at s t x o r e h i l)))
 
-  pub late-same : (L at : ℕ) (s t : List ℤ) → 1 ≤ L → 2 * (p.centre * L) ≤ size → length s ≡ size → at < size → lateValue p (s ++ t) size at L ≡ lateValue p s size at L
-  unfolding lateValue
+  pub late-same : (L at : ℕ) (s t : List ℤ) → 1 ≤ L → 2 * (p.centre * L) ≤ size → length s ≡ size → at < size → late_value p (s ++ t) size at L ≡ late_value p s size at L
+  unfolding late_value
   late-same L at s t o r e h =
       ago-same size at (size - p.centre * L) s t (omega (arith, mul-le-mul {n₁ = 1} {m₁ = 1} {n₂ = p.centre} {m₂ = L} is.some o)) (omega arith) e h

@@ -13,14 +13,14 @@ use mir.Syntax.{w32, w64}
 use mir.Val.{SFits}
 use mir.Facts.{to_z-of_z}
 use Rattle.whole.specs.Sum.{sum}
-use Rattle.whole.proofs.Signed.{var, lit, neg, ◌⊕◌, ◌⊗◌, eq-by, about}
+use Rattle.whole.proofs.Signed.{var, lit, neg, ◌⊕◌, ◌⊗◌, eq_by, about}
 use Rattle.whole.specs.Nearest.{nearest}
-use Rattle.answers.specs.Unit.{leastPlace, mostPlace}
+use Rattle.answers.specs.Unit.{least_place, most_place}
 use Rattle.whole.specs.Limit.{limit}
-use Rattle.whole.proofs.Limit.{limit32-fits}
-use Rattle.whole.proofs.Rounded.{raw, nearest-fits}
+use Rattle.whole.proofs.Limit.{limit32_fits}
+use Rattle.whole.proofs.Rounded.{raw, nearest_fits}
 use Rattle.tree.specs.Prototype.{published, coefficient}
-use Rattle.ring.specs.Line.{place, ago, tap, lineSum, lowValue, lateValue}
+use Rattle.ring.specs.Line.{place, ago, tap, line_sum, low_value, late_value}
 use Rattle.ring.specs.Helpers.{eleven, Weighed}
 
 -- ---- eleven products are the nineteen
@@ -29,7 +29,7 @@ pub eleven-taps : (f : ℕ → ℤ) →
     eleven (f 0) (f 2) (f 4) (f 6) (f 8) (f 9) (f 10) (f 12) (f 14) (f 16) (f 18) ≡ sum 19 (λ i. coefficient published i *ℤ f i)
 unfolding sum
 eleven-taps f =
-    eq-by
+    eq_by
     (lit 0 ⊕ lit 313 ⊗ var (f 0) ⊕ neg (lit 1338) ⊗ var (f 2) ⊕ lit 3593 ⊗ var (f 4) ⊕ neg (lit 8718) ⊗ var (f 6) ⊕ lit 31158 ⊗ var (f 8) ⊕ lit 50000 ⊗ var (f 9) ⊕ lit 31158 ⊗ var (f 10) ⊕ neg (lit 8718) ⊗ var (f 12) ⊕ lit 3593 ⊗ var (f 14) ⊕ neg (lit 1338) ⊗ var (f 16) ⊕ lit 313 ⊗ var (f 18))
     (lit 0 ⊕ lit 313 ⊗ var (f 0) ⊕ lit 0 ⊗ var (f 1) ⊕ neg (lit 1338) ⊗ var (f 2) ⊕ lit 0 ⊗ var (f 3) ⊕ lit 3593 ⊗ var (f 4) ⊕ lit 0 ⊗ var (f 5) ⊕ neg (lit 8718) ⊗ var (f 6) ⊕ lit 0 ⊗ var (f 7) ⊕ lit 31158 ⊗ var (f 8) ⊕ lit 50000 ⊗ var (f 9) ⊕ lit 31158 ⊗ var (f 10) ⊕ lit 0 ⊗ var (f 11) ⊕ neg (lit 8718) ⊗ var (f 12) ⊕ lit 0 ⊗ var (f 13) ⊕ lit 3593 ⊗ var (f 14) ⊕ lit 0 ⊗ var (f 15) ⊕ neg (lit 1338) ⊗ var (f 16) ⊕ lit 0 ⊗ var (f 17) ⊕ lit 313 ⊗ var (f 18))
     (omega arith)
@@ -41,14 +41,14 @@ pub record Read (x y : ℤ) : Type 0 where
   pub fits : mag x < 2 ^ 31
   pub value : x ≡ y
 
-read-raw : {x y : ℤ} → Read x y → raw w32 x ≡ y
-read-raw {x} {y} d = to_z-of_z {w = w32} {z = x} (record { sfits = d.fits }) ∙ d.value
+read_raw : {x y : ℤ} → Read x y → raw w32 x ≡ y
+read_raw {x} {y} d = to_z-of_z {w = w32} {z = x} (record { sfits = d.fits }) ∙ d.value
 
-small-fits : (r : ℤ) → nat_abs r ≤ 2 ^ 51 → SFits w64 r
-small-fits r h = record { sfits = omega (arith, about r) }
+small_fits : (r : ℤ) → nat_abs r ≤ 2 ^ 51 → SFits w64 r
+small_fits r h = record { sfits = omega (arith, about r) }
 
-small-raw : (r : ℤ) → nat_abs r ≤ 2 ^ 51 → raw w64 r ≡ r
-small-raw r h = to_z-of_z (small-fits r h)
+small_raw : (r : ℤ) → nat_abs r ≤ 2 ^ 51 → raw w64 r ≡ r
+small_raw r h = to_z-of_z (small_fits r h)
 
 pub summed : (line : List ℤ) (size at L : ℕ) (x : ℤ) {x0 x2 x4 x6 x8 x9 x10 x12 x14 x16 x18 r : ℤ} →
     let f = tap line size at L x in
@@ -56,18 +56,18 @@ pub summed : (line : List ℤ) (size at L : ℕ) (x : ℤ) {x0 x2 x4 x6 x8 x9 x1
     Read x12 (f 12) → Read x14 (f 14) → Read x16 (f 16) → Read x18 (f 18) →
     Weighed (raw w32 x0) (raw w32 x2) (raw w32 x4) (raw w32 x6) (raw w32 x8) (raw w32 x9) (raw w32 x10) (raw w32 x12) (raw w32 x14)
     (raw w32 x16) (raw w32 x18) r →
-    r ≡ lineSum published line size at L x
-unfolding lineSum
+    r ≡ line_sum published line size at L x
+unfolding line_sum
 summed line size at L x d0 d2 d4 d6 d8 d9 d10 d12 d14 d16 d18 w =
     w.value ∙
-    simp (read-raw d0, read-raw d2, read-raw d4, read-raw d6, read-raw d8, read-raw d9, read-raw d10, read-raw d12, read-raw d14, read-raw d16, read-raw d18)
+    simp (read_raw d0, read_raw d2, read_raw d4, read_raw d6, read_raw d8, read_raw d9, read_raw d10, read_raw d12, read_raw d14, read_raw d16, read_raw d18)
     (eleven-taps (tap line size at L x))
 
 -- ---- the taps
 
-pub read-new : (line : List ℤ) (size at L : ℕ) {x : ℤ} → SFits w32 x → Read x (tap line size at L x 0)
+pub read_new : (line : List ℤ) (size at L : ℕ) {x : ℤ} → SFits w32 x → Read x (tap line size at L x 0)
 unfolding tap
-read-new line size at L f = record { fits = f.sfits; value = refl }
+read_new line size at L f = record { fits = f.sfits; value = refl }
 
 -- the sample i·L back, as a leaf answers it
 pub read-tap : (line : List ℤ) (size at L : ℕ) (x : ℤ) (i : ℕ) (r : ℤ) → 1 ≤ i → r ≡ ago line size at (i * L) → mag r < 2 ^ 31 → Read r (tap line size at L x i)
@@ -77,48 +77,48 @@ read-tap line size at L x (suc i) r s e f = record { fits = f; value = e ∙ ap 
 
 module _ (i k L at : ℕ) where
   -- what is known of one tap is known of the newer ones, or of the older
-  pub back-too : i ≤ k → k * L ≤ at → i * L ≤ at
-  back-too h e = le_trans (mul-le-mul_right L h) e
+  pub back_too : i ≤ k → k * L ≤ at → i * L ≤ at
+  back_too h e = le_trans (mul-le-mul_right L h) e
 
-  pub round-too : k ≤ i → at < k * L → at < i * L
-  round-too h e = le_trans e (mul-le-mul_right L h)
+  pub round_too : k ≤ i → at < k * L → at < i * L
+  round_too h e = le_trans e (mul-le-mul_right L h)
 
 module _ (line : List ℤ) (size at d : ℕ) where
   -- where it stands before the position, and around the end
   pub tap-back : d ≤ at → SFits w32 (get_or line (at - d) (pos 0)) → raw w32 (get_or line (at - d) (pos 0)) ≡ ago line size at d
   tap-back h f = to_z-of_z f ∙ rw (le-leb d at h)
 
-  pub tap-round : at < d → SFits w32 (get_or line (at + size - d) (pos 0)) → raw w32 (get_or line (at + size - d) (pos 0)) ≡ ago line size at d
-  tap-round h f = to_z-of_z f ∙ rw (lt-leb d at h)
+  pub tap_round : at < d → SFits w32 (get_or line (at + size - d) (pos 0)) → raw w32 (get_or line (at + size - d) (pos 0)) ≡ ago line size at d
+  tap_round h f = to_z-of_z f ∙ rw (lt-leb d at h)
 
 -- ---- from the sum to the line's new value
 
-pub sum-in-reach : (r : ℤ) → nat_abs r ≤ 2 ^ 51 → nat_abs (raw w64 r) ≤ 2 ^ 62
-sum-in-reach r h = rw (small-raw r h) (omega arith)
+pub sum_in_reach : (r : ℤ) → nat_abs r ≤ 2 ^ 51 → nat_abs (raw w64 r) ≤ 2 ^ 62
+sum_in_reach r h = rw (small_raw r h) (omega arith)
 
-pub low-value-is : (line : List ℤ) (size at L : ℕ) (x s n r : ℤ) → s ≡ lineSum published line size at L x → nat_abs s ≤ 2 ^ 51 →
-    n ≡ nearest 100000 (raw w64 s) → r ≡ limit leastPlace mostPlace (raw w64 n) → raw w32 r ≡ lowValue published line size at L x
-unfolding lowValue
-low-value-is line size at L x s n r h b e l =
-    let s-is : raw w64 s ≡ s = small-raw s b in
+pub low_value_is : (line : List ℤ) (size at L : ℕ) (x s n r : ℤ) → s ≡ line_sum published line size at L x → nat_abs s ≤ 2 ^ 51 →
+    n ≡ nearest 100000 (raw w64 s) → r ≡ limit least_place most_place (raw w64 n) → raw w32 r ≡ low_value published line size at L x
+unfolding low_value
+low_value_is line size at L x s n r h b e l =
+    let s-is : raw w64 s ≡ s = small_raw s b in
     let n-is : n ≡ nearest 100000 s = e ∙ ap (nearest 100000) s-is in
-    let n-fits : SFits w64 n = rw n-is (nearest-fits 100000 (lit< tt) (lit≤ tt) s (omega arith)) in
-    let r-is : r ≡ limit leastPlace mostPlace n = l ∙ ap (limit leastPlace mostPlace) (to_z-of_z n-fits) in
-    to_z-of_z (rw r-is (limit32-fits n)) ∙ r-is ∙ ap (limit leastPlace mostPlace) (n-is ∙ ap (nearest 100000) h)
+    let n-fits : SFits w64 n = rw n-is (nearest_fits 100000 (lit< tt) (lit≤ tt) s (omega arith)) in
+    let r-is : r ≡ limit least_place most_place n = l ∙ ap (limit least_place most_place) (to_z-of_z n-fits) in
+    to_z-of_z (rw r-is (limit32_fits n)) ∙ r-is ∙ ap (limit least_place most_place) (n-is ∙ ap (nearest 100000) h)
 
 -- ---- the aligned sample: `size - 9·L` back is 9·L ahead, in the ring
 
 module _ (line : List ℤ) (size at L : ℕ) (reach : 2 * (9 * L) ≤ size) where
-  pub late-ahead : at + 9 * L < size → SFits w32 (get_or line (at + 9 * L) (pos 0)) → raw w32 (get_or line (at + 9 * L) (pos 0)) ≡ lateValue published line size at L
-  unfolding lateValue
-  late-ahead h f = to_z-of_z f ∙ ap (λ (k : ℕ). get_or line k (pos 0)) (sym here)
+  pub late_ahead : at + 9 * L < size → SFits w32 (get_or line (at + 9 * L) (pos 0)) → raw w32 (get_or line (at + 9 * L) (pos 0)) ≡ late_value published line size at L
+  unfolding late_value
+  late_ahead h f = to_z-of_z f ∙ ap (λ (k : ℕ). get_or line k (pos 0)) (sym here)
     where
       here : place size at (size - 9 * L) ≡ at + 9 * L
       here = rw (lt-leb (size - 9 * L) at (omega arith)) (omega arith)
 
-  pub late-round : size ≤ at + 9 * L → SFits w32 (get_or line (at + 9 * L - size) (pos 0)) → raw w32 (get_or line (at + 9 * L - size) (pos 0)) ≡ lateValue published line size at L
-  unfolding lateValue
-  late-round h f = to_z-of_z f ∙ ap (λ (k : ℕ). get_or line k (pos 0)) (sym here)
+  pub late_round : size ≤ at + 9 * L → SFits w32 (get_or line (at + 9 * L - size) (pos 0)) → raw w32 (get_or line (at + 9 * L - size) (pos 0)) ≡ late_value published line size at L
+  unfolding late_value
+  late_round h f = to_z-of_z f ∙ ap (λ (k : ℕ). get_or line k (pos 0)) (sym here)
     where
       here : place size at (size - 9 * L) ≡ at + 9 * L - size
       here = rw (le-leb (size - 9 * L) at (omega arith)) (omega arith)

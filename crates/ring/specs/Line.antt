@@ -1,6 +1,6 @@
 -- A line in the memory: a ring of `size` places, `at` the place of the next sample (docs/LAYOUT.md). Over any prototype p.
 use Rattle.std.specs.Prelude.{cond, List, ℕ, zero, suc, ◌+◌, ◌-◌, ◌*◌, leb, ltb, get_or, ℤ, pos, ◌*ℤ◌}
-use Rattle.answers.specs.Unit.{leastPlace, mostPlace}
+use Rattle.answers.specs.Unit.{least_place, most_place}
 use Rattle.whole.specs.Nearest.{nearest}
 use Rattle.whole.specs.Limit.{limit}
 use Rattle.whole.specs.Sum.{sum}
@@ -25,13 +25,13 @@ tap line size at L x (suc i) = ago line size at (L * suc i)
 
 module _ (p : Prototype) where
   -- rule 5.7: the weighted sum
-  unfoldable pub lineSum : List ℤ → ℕ → ℕ → ℕ → ℤ → ℤ
-  lineSum line size at L x = sum (taps p) (λ i. coefficient p i *ℤ tap line size at L x i)
+  unfoldable pub line_sum : List ℤ → ℕ → ℕ → ℕ → ℤ → ℤ
+  line_sum line size at L x = sum (taps p) (λ i. coefficient p i *ℤ tap line size at L x i)
 
   -- rule 5.7: over 100,000, rounded, and limited to 32 bits
-  unfoldable pub lowValue : List ℤ → ℕ → ℕ → ℕ → ℤ → ℤ
-  lowValue line size at L x = limit leastPlace mostPlace (nearest scale (lineSum line size at L x))
+  unfoldable pub low_value : List ℤ → ℕ → ℕ → ℕ → ℤ → ℤ
+  low_value line size at L x = limit least_place most_place (nearest scale (line_sum line size at L x))
 
   -- rule 5.8: the aligned sample, D·(2^(M-1) - L) back; size = D·2^(M-1)
-  unfoldable pub lateValue : List ℤ → ℕ → ℕ → ℕ → ℤ
-  lateValue line size at L = ago line size at (size - p.centre * L)
+  unfoldable pub late_value : List ℤ → ℕ → ℕ → ℕ → ℤ
+  late_value line size at L = ago line size at (size - p.centre * L)

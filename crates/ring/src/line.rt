@@ -2,7 +2,7 @@
 // oldest sample is still there. A tap is the sample i·l back; three leaves read it, by what is known of where it stands.
 ghost use Rattle.std.specs.Prelude.{◌≡◌, ◌≤◌, ◌<◌, ◌*◌};
 ghost use Rattle.tree.specs.Prototype.{published};
-ghost use Rattle.ring.specs.Line.{ago, lowValue, lateValue};
+ghost use Rattle.ring.specs.Line.{ago, low_value, late_value};
 ghost use Rattle.ring.specs.Helpers.{Within};
 
 use crate::low::weigh;
@@ -40,7 +40,7 @@ fn tap_either(line: &[i32], size: usize, at: usize, l: usize, i: usize) -> i32
 // The new value of the line below where at < 9·l: the tap 9·l back wraps, and so does every older one.
 pub fn low_near(line: &[i32], size: usize, at: usize, l: usize, x: i32) -> i32
     requires { Within published line.now size at l × (at < 9 * l) }
-    ensures { result ≡ lowValue published line.now size at l x }
+    ensures { result ≡ low_value published line.now size at l x }
 {
     let sum = weigh(
         x,
@@ -61,7 +61,7 @@ pub fn low_near(line: &[i32], size: usize, at: usize, l: usize, x: i32) -> i32
 // .. where 9·l <= at < 18·l: the taps up to 9·l back do not wrap, the one 18·l back does.
 pub fn low_far(line: &[i32], size: usize, at: usize, l: usize, x: i32) -> i32
     requires { Within published line.now size at l × (9 * l ≤ at) × (at < 18 * l) }
-    ensures { result ≡ lowValue published line.now size at l x }
+    ensures { result ≡ low_value published line.now size at l x }
 {
     let sum = weigh(
         x,
@@ -82,7 +82,7 @@ pub fn low_far(line: &[i32], size: usize, at: usize, l: usize, x: i32) -> i32
 // .. where 18·l <= at, so that no tap wraps: the usual path.
 pub fn low_straight(line: &[i32], size: usize, at: usize, l: usize, x: i32) -> i32
     requires { Within published line.now size at l × (18 * l ≤ at) }
-    ensures { result ≡ lowValue published line.now size at l x }
+    ensures { result ≡ low_value published line.now size at l x }
 {
     let sum = weigh(
         x,
@@ -103,7 +103,7 @@ pub fn low_straight(line: &[i32], size: usize, at: usize, l: usize, x: i32) -> i
 // This line's aligned sample: the one size - 9·l back is 9·l ahead, around the end.
 pub fn late_value(line: &[i32], size: usize, at: usize, l: usize) -> i32
     requires { Within published line.now size at l }
-    ensures { result ≡ lateValue published line.now size at l }
+    ensures { result ≡ late_value published line.now size at l }
 {
     let ahead = at + 9 * l;
     if ahead < size {

@@ -14,11 +14,11 @@ use Rattle.samples.specs.declared.channels.Channels.{Channels}
 use Rattle.samples.specs.declared.format.Format.{Format}
 use Rattle.fields.specs.Bytes.{Bytes}
 use Rattle.fields.proofs.Numbers.{bytes_take}
-use Rattle.eqfile.specs.Turn.{fedInAll, wantedOf, turn_of}
-use Rattle.runs.specs.Program.{State, fresh, Arrives, handed, frameBytes, turnAt, turnNumbers, next, after, Followed, ByPlan}
+use Rattle.eqfile.specs.Turn.{fed_in_all, wanted_of, turn_of}
+use Rattle.runs.specs.Program.{State, fresh, Arrives, handed, frame_bytes, turn_at, turn_numbers, next, after, Followed, ByPlan}
 use Rattle.runs.specs.Stopped.{Stops}
 use Rattle.runs.proofs.BlockCalls.{no_length}
-use Rattle.runs.proofs.AllAsked.{wanted-is, both, start_is}
+use Rattle.runs.proofs.AllAsked.{wanted_is, both, start_is}
 
 -- ---- the bytes
 
@@ -26,13 +26,13 @@ use Rattle.runs.proofs.AllAsked.{wanted-is, both, start_is}
 abbrev Reading : (size frames at read : ℕ) → List ℕ → Type 0
 Reading size frames at read d = ((read ≡ size * min at frames) ⊎ (d ≡ [])) × (length d ≤ size * (frames - at))
 
-reading-on : (size frames at read fed w : ℕ) (d : List ℕ) → w ≡ wantedOf size frames at read fed → Reading size frames at read d →
+reading_on : (size frames at read fed w : ℕ) (d : List ℕ) → w ≡ wanted_of size frames at read fed → Reading size frames at read d →
     Reading size frames (at + fed) (read + length (take w d)) (drop w d)
-reading-on size frames at read fed w d v (inr e, l) =
+reading_on size frames at read fed w d v (inr e, l) =
     let none : drop w d ≡ [] = ap (drop w) e ∙ drop-nil w in
     (inr none, rw none (omega arith))
-reading-on size frames at read fed w d v (inl e, l) =
-    let is : w ≡ size * min fed (frames - at) = v ∙ wanted-is size frames at read fed e in
+reading_on size frames at read fed w d v (inl e, l) =
+    let is : w ≡ size * min fed (frames - at) = v ∙ wanted_is size frames at read fed e in
     (by is (dec_lt w (length d)), omega (arith, length-drop w d, left))
   where
     left : size * (frames - at) ≡ size * min fed (frames - at) + size * (frames - (at + fed))
@@ -47,41 +47,41 @@ module _ (gains : List ℤ) (format : Format) (channels : Channels) (frames : �
   run_of : ℕ → State → List ℕ → List (List ℕ)
   run_of zero s d = []
   run_of (suc k) s d =
-      let w = (turnAt format channels frames s).wanted in
+      let w = (turn_at format channels frames s).wanted in
       take w d ∷ run_of k (next gains format channels frames s (take w d)) (drop w d)
 
   -- all that a turn wants came, or nothing comes behind it
   abbrev Last : State → (u rest : List ℕ) → Type 0
-  Last s u rest = (length u ≡ (turnAt format channels frames s).wanted) ⊎ (rest ≡ [])
+  Last s u rest = (length u ≡ (turn_at format channels frames s).wanted) ⊎ (rest ≡ [])
 
   -- each turn's bytes arrive, as many as it wants while there are any
   unfoldable AllArrive : State → List (List ℕ) → Type 0
   AllArrive s [] = Unit {0}
-  AllArrive s (u ∷ us) = Arrives (turnAt format channels frames s) u × (Last s u (handed us) × AllArrive (next gains format channels frames s u) us)
+  AllArrive s (u ∷ us) = Arrives (turn_at format channels frames s) u × (Last s u (handed us) × AllArrive (next gains format channels frames s u) us)
 
-  run-hands : (k : ℕ) (s : State) (d : List ℕ) → Reading (frameBytes format channels) frames s.at s.read d → fedInAll frames ≤ s.at + k → handed (run_of k s d) ≡ d
+  run_hands : (k : ℕ) (s : State) (d : List ℕ) → Reading (frame_bytes format channels) frames s.at s.read d → fed_in_all frames ≤ s.at + k → handed (run_of k s d) ≡ d
   unfolding handed run_of turn_of
-  run-hands zero s d (e, l) h =
+  run_hands zero s d (e, l) h =
       let z : frames - s.at ≡ 0 = omega arith in
-      let size = frameBytes format channels in
+      let size = frame_bytes format channels in
       sym (no_length d (omega (arith, ap (λ (k : ℕ). size * k) z ∙ mul-zero size)))
-  run-hands (suc k) s d r h =
-      let t = turnAt format channels frames s in
+  run_hands (suc k) s d r h =
+      let t = turn_at format channels frames s in
       let w = t.wanted in
       ap (λ (z : List ℕ). take w d ++ z)
-      (run-hands k (next gains format channels frames s (take w d)) (drop w d) (reading-on (frameBytes format channels) frames s.at s.read t.fed w d refl r) (omega arith)) ∙
+      (run_hands k (next gains format channels frames s (take w d)) (drop w d) (reading_on (frame_bytes format channels) frames s.at s.read t.fed w d refl r) (omega arith)) ∙
       take-append-drop w d
 
-  run-turns : (k : ℕ) (s : State) (d : List ℕ) → Bytes d → Reading (frameBytes format channels) frames s.at s.read d → fedInAll frames ≤ s.at + k → AllArrive s (run_of k s d) × (fedInAll frames ≤ (after gains format channels frames s (run_of k s d)).at)
+  run_turns : (k : ℕ) (s : State) (d : List ℕ) → Bytes d → Reading (frame_bytes format channels) frames s.at s.read d → fed_in_all frames ≤ s.at + k → AllArrive s (run_of k s d) × (fed_in_all frames ≤ (after gains format channels frames s (run_of k s d)).at)
   unfolding AllArrive after run_of turn_of
-  run-turns zero s d b r h = (tt, omega arith)
-  run-turns (suc k) s d b r h =
-      let t = turnAt format channels frames s in
+  run_turns zero s d b r h = (tt, omega arith)
+  run_turns (suc k) s d b r h =
+      let t = turn_at format channels frames s in
       let w = t.wanted in
       let then = next gains format channels frames s (take w d) in
-      let on = reading-on (frameBytes format channels) frames s.at s.read t.fed w d refl r in
-      let rest = run-turns k then (drop w d) (λ i. rw (get_or-drop w d i 0) (b (w + i))) on (omega arith) in
-      ((record { read-most = omega (arith, length-take w d); bytes = bytes_take w d b }, (last w d _ (run-hands k then (drop w d) on (omega arith)), rest.0)), rest.1)
+      let on = reading_on (frame_bytes format channels) frames s.at s.read t.fed w d refl r in
+      let rest = run_turns k then (drop w d) (λ i. rw (get_or-drop w d i 0) (b (w + i))) on (omega arith) in
+      ((record { read_most = omega (arith, length-take w d); bytes = bytes_take w d b }, (last w d _ (run_hands k then (drop w d) on (omega arith)), rest.0)), rest.1)
     where
       last : (w : ℕ) (d behind : List ℕ) → behind ≡ drop w d → (length (take w d) ≡ w) ⊎ (behind ≡ [])
       last w d behind e = by (dec_lt w (length d))
@@ -99,16 +99,16 @@ module _ (gains : List ℤ) (format : Format) (channels : Channels) (frames : �
     behind : List (List ℕ)
     is : us ≡ before ++ piece ∷ behind
     followed : Followed gains format channels frames s before
-    arrives : Arrives (turnAt format channels frames (after gains format channels frames s before)) piece
-    bad : turnNumbers format channels frames (after gains format channels frames s before) piece ≡ false
+    arrives : Arrives (turn_at format channels frames (after gains format channels frames s before)) piece
+    bad : turn_numbers format channels frames (after gains format channels frames s before) piece ≡ false
     last : Last (after gains format channels frames s before) piece (handed behind)
 
-  go-or-stop : (s : State) (us : List (List ℕ)) → AllArrive s us → Followed gains format channels frames s us ⊎ StopIn s us
+  go_or_stop : (s : State) (us : List (List ℕ)) → AllArrive s us → Followed gains format channels frames s us ⊎ StopIn s us
   unfolding AllArrive Followed after
-  go-or-stop s [] a = inl tt
-  go-or-stop s (u ∷ us) a = by (turnNumbers format channels frames s u) refl (go-or-stop (next gains format channels frames s u) us a.1.1)
+  go_or_stop s [] a = inl tt
+  go_or_stop s (u ∷ us) a = by (turn_numbers format channels frames s u) refl (go_or_stop (next gains format channels frames s u) us a.1.1)
     where
-      by : (b : Bool) → turnNumbers format channels frames s u ≡ b →
+      by : (b : Bool) → turn_numbers format channels frames s u ≡ b →
           Followed gains format channels frames (next gains format channels frames s u) us ⊎ StopIn (next gains format channels frames s u) us →
           Followed gains format channels frames s (u ∷ us) ⊎ StopIn s (u ∷ us)
       by false e rest = inr (record { before = []; piece = u; behind = us; is = refl; followed = tt; arrives = a.0; bad = e; last = a.1.0 })
@@ -147,20 +147,20 @@ module _ (gains : List ℤ) (format : Format) (channels : Channels) (frames : �
     pub last : Last (after gains format channels frames (fresh channels) turns) piece unread
 
   -- .. there is one or the other for any data, cut short or not
-  pub run-or-stop : (d : List ℕ) → Bytes d → length d ≤ frameBytes format channels * frames → Run d ⊎ Stop d
-  run-or-stop d b l = by (go-or-stop (fresh channels) us all.0)
+  pub run_or_stop : (d : List ℕ) → Bytes d → length d ≤ frame_bytes format channels * frames → Run d ⊎ Stop d
+  run_or_stop d b l = by (go_or_stop (fresh channels) us all.0)
     where
       us : List (List ℕ)
-      us = run_of (fedInAll frames) (fresh channels) d
+      us = run_of (fed_in_all frames) (fresh channels) d
 
-      start : Reading (frameBytes format channels) frames 0 0 d
-      start = (inl (start_is (frameBytes format channels) frames), rw (sub-zero frames) l)
+      start : Reading (frame_bytes format channels) frames 0 0 d
+      start = (inl (start_is (frame_bytes format channels) frames), rw (sub-zero frames) l)
 
-      all : AllArrive (fresh channels) us × (fedInAll frames ≤ (after gains format channels frames (fresh channels) us).at)
-      all = run-turns (fedInAll frames) (fresh channels) d b start (omega arith)
+      all : AllArrive (fresh channels) us × (fed_in_all frames ≤ (after gains format channels frames (fresh channels) us).at)
+      all = run_turns (fed_in_all frames) (fresh channels) d b start (omega arith)
 
       hands : handed us ≡ d
-      hands = run-hands (fedInAll frames) (fresh channels) d start (omega arith)
+      hands = run_hands (fed_in_all frames) (fresh channels) d start (omega arith)
 
       by : Followed gains format channels frames (fresh channels) us ⊎ StopIn (fresh channels) us → Run d ⊎ Stop d
       by (inl h) = inl (record { turns = us; runs = (h, all.1); hands = hands })

@@ -15,14 +15,14 @@ use Rattle.samples.specs.declared.channels.Channels.{Channels}
 use Rattle.samples.specs.Format.{size_of}
 use Rattle.samples.specs.declared.format.Format.{Format}
 use Rattle.history.specs.History.{Call, joined}
-use Rattle.eqfile.specs.Data.{samplesFrom}
-use Rattle.eqfile.specs.Turn.{late, fedInAll, allRead, wantedOf, turn_of}
+use Rattle.eqfile.specs.Data.{samples_from}
+use Rattle.eqfile.specs.Turn.{late, fed_in_all, all_read, wanted_of, turn_of}
 use Rattle.blocks.specs.Equalise.{zeros}
-use Rattle.runs.specs.Program.{State, fresh, handed, frameBytes, turnAt, turnSamples, next, after, Followed, ByPlan, samplesRead}
-use Rattle.eqfile.proofs.Turns.{wanted-few}
+use Rattle.runs.specs.Program.{State, fresh, handed, frame_bytes, turn_at, turn_samples, next, after, Followed, ByPlan, samples_read}
+use Rattle.eqfile.proofs.Turns.{wanted_few}
 use Rattle.runs.proofs.NeverMore.{step}
-use Rattle.runs.proofs.OneMore.{at-grows, at-within}
-use Rattle.runs.proofs.SamplesInPieces.{more-zeros, no_bytes, from-append}
+use Rattle.runs.proofs.OneMore.{at_grows, at_within}
+use Rattle.runs.proofs.SamplesInPieces.{more_zeros, no_bytes, from-append}
 
 -- ---- one turn
 
@@ -31,11 +31,11 @@ abbrev pub Over : (size frames at read : ℕ) → Type 0
 Over size frames at read = (read < size * min at frames) ⊎ (frames ≤ at)
 
 -- then nothing more is asked for
-over_none : (size frames at read fed : ℕ) → Over size frames at read → wantedOf size frames at read fed ≡ 0
-unfolding wantedOf
-over_none size frames at read fed o = by (allRead size frames at read) refl o
+over_none : (size frames at read fed : ℕ) → Over size frames at read → wanted_of size frames at read fed ≡ 0
+unfolding wanted_of
+over_none size frames at read fed o = by (all_read size frames at read) refl o
   where
-    by : (b : Bool) → allRead size frames at read ≡ b → Over size frames at read → cond b (size * min fed (frames - at)) 0 ≡ 0
+    by : (b : Bool) → all_read size frames at read ≡ b → Over size frames at read → cond b (size * min fed (frames - at)) 0 ≡ 0
     by true e (inl l) = absurd (omega (arith, eqb-true))
     by true e (inr l) =
         let z : min fed (frames - at) ≡ 0 = omega arith in
@@ -43,15 +43,15 @@ over_none size frames at read fed o = by (allRead size frames at read) refl o
     by false e o = refl
 
 -- .. and so it stays
-over-stays : (size frames at read fed : ℕ) → Over size frames at read → Over size frames (at + fed) (read + 0)
-over-stays size frames at read fed (inl l) =
+over_stays : (size frames at read fed : ℕ) → Over size frames at read → Over size frames (at + fed) (read + 0)
+over_stays size frames at read fed (inl l) =
     let m : size * min at frames ≤ size * min (at + fed) frames = mul-le-mul_left size (omega arith) in
     inl (omega arith)
-over-stays size frames at read fed (inr l) = inr (omega arith)
+over_stays size frames at read fed (inr l) = inr (omega arith)
 
 -- a block that lacks some of its bytes is the last that has any
-pub last-piece : (size frames at read fed got : ℕ) → read ≤ size * min at frames → got ≤ size * fed → (got ≡ size * fed) ⊎ Over size frames (at + fed) (read + got)
-last-piece size frames at read fed got r own = by (dec_lt got (size * fed)) (dec_lt (at + fed) frames)
+pub last_piece : (size frames at read fed got : ℕ) → read ≤ size * min at frames → got ≤ size * fed → (got ≡ size * fed) ⊎ Over size frames (at + fed) (read + got)
+last_piece size frames at read fed got r own = by (dec_lt got (size * fed)) (dec_lt (at + fed) frames)
   where
     by : Dec (got < size * fed) → Dec (at + fed < frames) → (got ≡ size * fed) ⊎ Over size frames (at + fed) (read + got)
     by (no n) d = inl (omega arith)
@@ -64,32 +64,32 @@ last-piece size frames at read fed got r own = by (dec_lt got (size * fed)) (dec
 -- ---- all turns
 
 -- the bytes of frames are those of their samples
-pub by-samples : (count each n : ℕ) → count * each * n ≡ each * (count * n)
-by-samples count each n = omega arith
+pub by_samples : (count each n : ℕ) → count * each * n ≡ each * (count * n)
+by_samples count each n = omega arith
 
 pub no_length : {A : Type 0} (s : List A) → length s ≡ 0 → s ≡ []
 no_length [] e = refl
 no_length (a ∷ s) e = absurd (omega arith)
 
 module _ (gains : List ℤ) (format : Format) (channels : Channels) (frames : ℕ) where
-  pub over_nothing : (s : State) (us : List (List ℕ)) → Over (frameBytes format channels) frames s.at s.read → Followed gains format channels frames s us → handed us ≡ []
+  pub over_nothing : (s : State) (us : List (List ℕ)) → Over (frame_bytes format channels) frames s.at s.read → Followed gains format channels frames s us → handed us ≡ []
   unfolding Followed handed turn_of
   over_nothing s [] o h = refl
   over_nothing s (u ∷ us) o h =
-      let size = frameBytes format channels in
-      let fed = (turnAt format channels frames s).fed in
-      let z : length u ≡ 0 = omega (arith, h.0.arrives.read-most, over_none size frames s.at s.read fed o) in
-      let o' : Over size frames (s.at + fed) (s.read + length u) = rw z (over-stays size frames s.at s.read fed o) in
+      let size = frame_bytes format channels in
+      let fed = (turn_at format channels frames s).fed in
+      let z : length u ≡ 0 = omega (arith, h.0.arrives.read_most, over_none size frames s.at s.read fed o) in
+      let o' : Over size frames (s.at + fed) (s.read + length u) = rw z (over_stays size frames s.at s.read fed o) in
       ap₂ ◌++◌ (no_length u z) (over_nothing (next gains format channels frames s u) us o' h.1)
 
   -- never more bytes are read than those of the frames fed
-  pub read-within : (s : State) (us : List (List ℕ)) → s.read ≤ frameBytes format channels * min s.at frames → Followed gains format channels frames s us →
-      (after gains format channels frames s us).read ≤ frameBytes format channels * min (after gains format channels frames s us).at frames
+  pub read-within : (s : State) (us : List (List ℕ)) → s.read ≤ frame_bytes format channels * min s.at frames → Followed gains format channels frames s us →
+      (after gains format channels frames s us).read ≤ frame_bytes format channels * min (after gains format channels frames s us).at frames
   unfolding Followed after turn_of
   read-within s [] r h = r
   read-within s (u ∷ us) r h =
       read-within (next gains format channels frames s u) us
-      (step (frameBytes format channels) frames s.at s.read (turnAt format channels frames s).fed (length u) r h.0.arrives.read-most) h.1
+      (step (frame_bytes format channels) frames s.at s.read (turn_at format channels frames s).fed (length u) r h.0.arrives.read_most) h.1
 
   -- the count of them is that of the bytes handed over
   pub read_is : (s : State) (us : List (List ℕ)) → (after gains format channels frames s us).read ≡ s.read + length (handed us)
@@ -98,11 +98,11 @@ module _ (gains : List ℤ) (format : Format) (channels : Channels) (frames : �
   read_is s (u ∷ us) = read_is (next gains format channels frames s u) us ∙ omega (arith, length-append u (handed us))
 
   -- .. nor than those of the file's frames
-  pub handed-within : (s : State) (us : List (List ℕ)) → s.read ≤ frameBytes format channels * min s.at frames → Followed gains format channels frames s us →
-      s.read + length (handed us) ≤ frameBytes format channels * frames
+  pub handed-within : (s : State) (us : List (List ℕ)) → s.read ≤ frame_bytes format channels * min s.at frames → Followed gains format channels frames s us →
+      s.read + length (handed us) ≤ frame_bytes format channels * frames
   handed-within s us r h =
       let e = after gains format channels frames s us in
-      let size = frameBytes format channels in
+      let size = frame_bytes format channels in
       let l : size * min e.at frames ≤ size * frames = mul-le-mul_left size (omega arith) in
       omega (arith, read_is s us, read-within s us r h)
 
@@ -110,47 +110,47 @@ module _ (gains : List ℤ) (format : Format) (channels : Channels) (frames : �
   unfoldable pub calls : State → List (List ℕ) → List Call
   calls s [] = []
   calls s (u ∷ us) =
-      let input = turnSamples format channels frames s u in
+      let input = turn_samples format channels frames s u in
       record { gains = gains; input = input; before = zeros input } ∷ calls (next gains format channels frames s u) us
 
-  rest-joined : (s : State) (us : List (List ℕ)) → s.read ≤ frameBytes format channels * min s.at frames → Followed gains format channels frames s us →
-      joined (calls s us) ≡ samplesFrom (count_of channels * ((after gains format channels frames s us).at - s.at)) format (handed us)
+  rest_joined : (s : State) (us : List (List ℕ)) → s.read ≤ frame_bytes format channels * min s.at frames → Followed gains format channels frames s us →
+      joined (calls s us) ≡ samples_from (count_of channels * ((after gains format channels frames s us).at - s.at)) format (handed us)
   unfolding Followed after handed turn_of calls joined
-  rest-joined s [] r h =
+  rest_joined s [] r h =
       let z : s.at - s.at ≡ 0 = omega arith in
-      sym (ap (λ (n : ℕ). samplesFrom (count_of channels * n) format []) z ∙ ap (λ (n : ℕ). samplesFrom n format []) (mul-zero (count_of channels)) ∙ no_bytes 0 format)
-  rest-joined s (u ∷ us) r h =
-      let size = frameBytes format channels in
+      sym (ap (λ (n : ℕ). samples_from (count_of channels * n) format []) z ∙ ap (λ (n : ℕ). samples_from n format []) (mul-zero (count_of channels)) ∙ no_bytes 0 format)
+  rest_joined s (u ∷ us) r h =
+      let size = frame_bytes format channels in
       let count = count_of channels in
-      let fed = (turnAt format channels frames s).fed in
+      let fed = (turn_at format channels frames s).fed in
       let at = s.at in
       let read = s.read in
       let got = length u in
       let then = next gains format channels frames s u in
       let end = (after gains format channels frames then us).at in
-      let own : got ≤ size * fed = omega (arith, h.0.arrives.read-most, wanted-few size frames at read fed) in
+      let own : got ≤ size * fed = omega (arith, h.0.arrives.read_most, wanted_few size frames at read fed) in
       let all : count * fed + count * (end - (at + fed)) ≡ count * (end - at) =
-      sym (mul-add count fed (end - (at + fed))) ∙ ap (λ (n : ℕ). count * n) (omega (arith, at-grows gains format channels frames then us)) in
-      ap (λ (z : List ℤ). samplesFrom (count * fed) format u ++ z)
-      (rest-joined then us (step size frames at read fed got r h.0.arrives.read-most) h.1) ∙
-      from-append (count * fed) (count * (end - (at + fed))) format u (handed us) (omega (arith, by-samples count (size_of format) fed))
-      (⊎_elim (λ (e : got ≡ size * fed). inl (e ∙ by-samples count (size_of format) fed))
-      (λ (o : Over size frames (at + fed) (read + got)). inr (over_nothing then us o h.1)) (last-piece size frames at read fed got r own)) ∙
-      ap (λ (n : ℕ). samplesFrom n format (u ++ handed us)) all
+      sym (mul-add count fed (end - (at + fed))) ∙ ap (λ (n : ℕ). count * n) (omega (arith, at_grows gains format channels frames then us)) in
+      ap (λ (z : List ℤ). samples_from (count * fed) format u ++ z)
+      (rest_joined then us (step size frames at read fed got r h.0.arrives.read_most) h.1) ∙
+      from-append (count * fed) (count * (end - (at + fed))) format u (handed us) (omega (arith, by_samples count (size_of format) fed))
+      (⊎_elim (λ (e : got ≡ size * fed). inl (e ∙ by_samples count (size_of format) fed))
+      (λ (o : Over size frames (at + fed) (read + got)). inr (over_nothing then us o h.1)) (last_piece size frames at read fed got r own)) ∙
+      ap (λ (n : ℕ). samples_from n format (u ++ handed us)) all
 
   -- the samples of some turns' calls are those of the bytes read for them
-  pub calls-so-far : (us : List (List ℕ)) → Followed gains format channels frames (fresh channels) us →
-      joined (calls (fresh channels) us) ≡ samplesFrom (count_of channels * (after gains format channels frames (fresh channels) us).at) format (handed us)
-  calls-so-far us h =
-      rest-joined (fresh channels) us (omega arith) h ∙
-      ap (λ (n : ℕ). samplesFrom (count_of channels * n) format (handed us)) (sub-zero (after gains format channels frames (fresh channels) us).at)
+  pub calls_so_far : (us : List (List ℕ)) → Followed gains format channels frames (fresh channels) us →
+      joined (calls (fresh channels) us) ≡ samples_from (count_of channels * (after gains format channels frames (fresh channels) us).at) format (handed us)
+  calls_so_far us h =
+      rest_joined (fresh channels) us (omega arith) h ∙
+      ap (λ (n : ℕ). samples_from (count_of channels * n) format (handed us)) (sub-zero (after gains format channels frames (fresh channels) us).at)
 
   -- the calls of a whole run: those of the bytes read, and the zeros that follow
-  pub calls-join : (us : List (List ℕ)) → ByPlan gains format channels frames (fresh channels) us →
-      joined (calls (fresh channels) us) ≡ samplesRead format channels frames (handed us) ++ replicate (count_of channels * late) (pos 0)
-  calls-join us h =
+  pub calls_join : (us : List (List ℕ)) → ByPlan gains format channels frames (fresh channels) us →
+      joined (calls (fresh channels) us) ≡ samples_read format channels frames (handed us) ++ replicate (count_of channels * late) (pos 0)
+  calls_join us h =
       let count = count_of channels in
-      let end : (after gains format channels frames (fresh channels) us).at ≡ fedInAll frames = omega (arith, h.1, at-within gains format channels frames (fresh channels) us (omega arith)) in
-      calls-so-far us h.0 ∙
-      ap (λ (n : ℕ). samplesFrom n format (handed us)) (ap (λ (n : ℕ). count * n) end ∙ mul-add count frames late) ∙
-      more-zeros (count * frames) (count * late) format (handed us) (omega (arith, by-samples count (size_of format) frames, handed-within (fresh channels) us (omega arith) h.0))
+      let end : (after gains format channels frames (fresh channels) us).at ≡ fed_in_all frames = omega (arith, h.1, at_within gains format channels frames (fresh channels) us (omega arith)) in
+      calls_so_far us h.0 ∙
+      ap (λ (n : ℕ). samples_from n format (handed us)) (ap (λ (n : ℕ). count * n) end ∙ mul-add count frames late) ∙
+      more_zeros (count * frames) (count * late) format (handed us) (omega (arith, by_samples count (size_of format) frames, handed-within (fresh channels) us (omega arith) h.0))

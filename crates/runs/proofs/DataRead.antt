@@ -12,23 +12,23 @@ use lib.IntN.{ℤ}
 use Rattle.samples.specs.declared.channels.Channels.{Channels}
 use Rattle.samples.specs.declared.format.Format.{Format}
 use Rattle.eqfile.specs.Turn.{turn_of, short_of}
-use Rattle.runs.specs.Program.{State, fresh, handed, frameBytes, turnAt, next, after, Followed, ByPlan, AllFetched}
+use Rattle.runs.specs.Program.{State, fresh, handed, frame_bytes, turn_at, next, after, Followed, ByPlan, AllFetched}
 use Rattle.runs.specs.Started.{Started}
 use Rattle.runs.proofs.BlockCalls.{no_length, handed-within}
-use Rattle.runs.proofs.AllAsked.{wanted-is, both, start_is}
+use Rattle.runs.proofs.AllAsked.{wanted_is, both, start_is}
 use Rattle.runs.proofs.Starting.{stated}
 
 -- ---- what is short
 
 -- the bytes read and those that are short are all bytes of the file's frames
-pub short-adds-up : (gains : List ℤ) (format : Format) (channels : Channels) (frames : ℕ) (us : List (List ℕ)) → Followed gains format channels frames (fresh channels) us →
-    length (handed us) + short_of (frameBytes format channels) frames (length (handed us)) ≡ frameBytes format channels * frames
-short-adds-up gains format channels frames us h = omega (arith, handed-within gains format channels frames (fresh channels) us (omega arith) h)
+pub short_adds_up : (gains : List ℤ) (format : Format) (channels : Channels) (frames : ℕ) (us : List (List ℕ)) → Followed gains format channels frames (fresh channels) us →
+    length (handed us) + short_of (frame_bytes format channels) frames (length (handed us)) ≡ frame_bytes format channels * frames
+short_adds_up gains format channels frames us h = omega (arith, handed-within gains format channels frames (fresh channels) us (omega arith) h)
 
 -- .. so that what is short is the length of `data` that the header states, but the bytes read
-pub short-is : {gains : List ℤ} {front : List ℕ} {rate : ℕ} {format : Format} {channels : Channels} {frames start : ℕ} (s : Started gains front rate format channels frames start) (us : List (List ℕ)) →
-    short_of (frameBytes format channels) frames (length (handed us)) ≡ (stated s).found.size - length (handed us)
-short-is s us = ap (λ (n : ℕ). n - length (handed us)) (sym (stated s).size_is)
+pub short_is : {gains : List ℤ} {front : List ℕ} {rate : ℕ} {format : Format} {channels : Channels} {frames start : ℕ} (s : Started gains front rate format channels frames start) (us : List (List ℕ)) →
+    short_of (frame_bytes format channels) frames (length (handed us)) ≡ (stated s).found.size - length (handed us)
+short_is s us = ap (λ (n : ℕ). n - length (handed us)) (sym (stated s).size_is)
 
 -- ---- the front
 
@@ -45,10 +45,10 @@ abbrev Left : (all read : ℕ) → List ℕ → List ℕ
 Left all read there = take (all - read) (drop read there)
 
 -- one turn: the front has no more than it wants, or it takes just that many of the front's bytes
-one-turn : (all read w : ℕ) (there u more rest : List ℕ) → w ≤ all - read → u ≡ take w (drop read there) ++ more → length u ≤ w →
+one_turn : (all read w : ℕ) (there u more rest : List ℕ) → w ≤ all - read → u ≡ take w (drop read there) ++ more → length u ≤ w →
     (w < length (drop read there) → take (length (Left all (read + w) there)) rest ≡ Left all (read + w) there) →
     take (length (Left all read there)) (u ++ rest) ≡ Left all read there
-one-turn all read w there u more rest most is few on = by (dec_lt w (length (drop read there)))
+one_turn all read w there u more rest most is few on = by (dec_lt w (length (drop read there)))
   where
     here : List ℕ
     here = drop read there
@@ -72,7 +72,7 @@ one-turn all read w there u more rest most is few on = by (dec_lt w (length (dro
 
 module _ (gains : List ℤ) (format : Format) (channels : Channels) (frames : ℕ) (front : List ℕ) (start : ℕ) where
   abbrev size : ℕ
-  size = frameBytes format channels
+  size = frame_bytes format channels
 
   abbrev there : List ℕ
   there = drop start front
@@ -83,32 +83,32 @@ module _ (gains : List ℤ) (format : Format) (channels : Channels) (frames : �
       let none : Left (size * frames) read there ≡ [] = ap (take (size * frames - read)) (drop_of_length-le there h) ∙ take-nil (size * frames - read) in
       ap (λ (k : List ℕ). take (length k) l) none ∙ sym none
 
-  front-from : (s : State) (us : List (List ℕ)) → FrontRead size frames s.at s.read (length there) → ByPlan gains format channels frames s us →
+  front_from : (s : State) (us : List (List ℕ)) → FrontRead size frames s.at s.read (length there) → ByPlan gains format channels frames s us →
       AllFetched gains format channels frames front start s us → take (length (Left (size * frames) s.read there)) (handed us) ≡ Left (size * frames) s.read there
   unfolding Followed after AllFetched handed turn_of
-  front-from s us (inr h) plan f = none_left s.read (handed us) h
-  front-from s [] (inl e) (h, end) f =
+  front_from s us (inr h) plan f = none_left s.read (handed us) h
+  front_from s [] (inl e) (h, end) f =
       let m : min s.at frames ≡ frames = omega arith in
       let all : size * frames - s.read ≡ 0 = omega (arith, e ∙ ap (λ (k : ℕ). size * k) m) in
       let none : Left (size * frames) s.read there ≡ [] = ap (λ (k : ℕ). take k (drop s.read there)) all in
       ap (λ (k : List ℕ). take (length k) []) none ∙ sym none
-  front-from s (u ∷ us) (inl e) (h, end) f =
-      let t = turnAt format channels frames s in
+  front_from s (u ∷ us) (inl e) (h, end) f =
+      let t = turn_at format channels frames s in
       let w = t.wanted in
-      let is : w ≡ size * min t.fed (frames - s.at) = wanted-is size frames s.at s.read t.fed e in
+      let is : w ≡ size * min t.fed (frames - s.at) = wanted_is size frames s.at s.read t.fed e in
       let behind : drop (start + s.read) front ≡ drop s.read there = sym (drop-drop s.read start front) in
       let u-is : u ≡ take w (drop s.read there) ++ f.0.more = f.0.is ∙ ap (λ (l : List ℕ). take w l ++ f.0.more) behind in
       let sum : s.read + w ≡ size * min (s.at + t.fed) frames = ap₂ ◌+◌ e is ∙ both size frames s.at t.fed in
       let l : size * min (s.at + t.fed) frames ≤ size * frames = mul-le-mul_left size (omega arith) in
-      one-turn (size * frames) s.read w there u f.0.more (handed us) (omega arith) u-is h.0.arrives.read-most
+      one_turn (size * frames) s.read w there u f.0.more (handed us) (omega arith) u-is h.0.arrives.read_most
       (λ more.
-      let got : length u ≡ w = omega (arith, ap length u-is ∙ length-append (take w (drop s.read there)) f.0.more, length-take-le w (drop s.read there) (omega arith), h.0.arrives.read-most) in
+      let got : length u ≡ w = omega (arith, ap length u-is ∙ length-append (take w (drop s.read there)) f.0.more, length-take-le w (drop s.read there) (omega arith), h.0.arrives.read_most) in
       subst (λ (k : ℕ). take (length (Left (size * frames) (s.read + k) there)) (handed us) ≡ Left (size * frames) (s.read + k) there) got
-      (front-from (next gains format channels frames s u) us (inl (ap (λ (k : ℕ). s.read + k) got ∙ sum)) (h.1, end) f.1))
+      (front_from (next gains format channels frames s u) us (inl (ap (λ (k : ℕ). s.read + k) got ∙ sum)) (h.1, end) f.1))
 
   -- what of the data came with the front is the beginning of what is handed over
-  pub front-first : (us : List (List ℕ)) → ByPlan gains format channels frames (fresh channels) us → AllFetched gains format channels frames front start (fresh channels) us →
+  pub front_first : (us : List (List ℕ)) → ByPlan gains format channels frames (fresh channels) us → AllFetched gains format channels frames front start (fresh channels) us →
       let came = take (size * frames) there in take (length came) (handed us) ≡ came
-  front-first us plan f =
+  front_first us plan f =
       subst (λ (n : ℕ). take (length (take n there)) (handed us) ≡ take n there) (sub-zero (size * frames))
-      (front-from (fresh channels) us (inl (start_is size frames)) plan f)
+      (front_from (fresh channels) us (inl (start_is size frames)) plan f)

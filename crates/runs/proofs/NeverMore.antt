@@ -7,12 +7,12 @@ use native.Mathlib.Nat.{mul-le-mul_left, mul-div-le}
 use native.Mathlib.Omega.{arith}
 use lib.Dec.{ltb}
 use Rattle.answers.specs.Answer.{Answer, accepted, refused}
-use Rattle.answers.specs.Unit.{largestData}
+use Rattle.answers.specs.Unit.{largest_data}
 use Rattle.samples.specs.Channels.{count_of}
-use Rattle.wave_values.specs.Values.{frameSize}
+use Rattle.wave_values.specs.Values.{frame_size}
 use Rattle.wave.specs.Walk.{Found}
-use Rattle.eqfile.specs.Start.{Plan, planFor}
-use Rattle.eqfile.specs.Turn.{allRead, wantedOf, turn_of}
+use Rattle.eqfile.specs.Start.{Plan, plan_for}
+use Rattle.eqfile.specs.Turn.{all_read, wanted_of, turn_of}
 
 -- what was read for each block in turn: never more than was asked
 unfoldable pub Reads : (count size frames at read : ℕ) → List ℕ → Type 0
@@ -25,9 +25,9 @@ total [] = 0
 total (n ∷ ns) = n + total ns
 
 -- a block leaves the bytes read within those of the frames fed
-pub step : (size frames at read fed got : ℕ) → read ≤ size * min at frames → got ≤ wantedOf size frames at read fed → read + got ≤ size * min (at + fed) frames
-unfolding wantedOf
-step size frames at read fed got r g = by (allRead size frames at read) g
+pub step : (size frames at read fed got : ℕ) → read ≤ size * min at frames → got ≤ wanted_of size frames at read fed → read + got ≤ size * min (at + fed) frames
+unfolding wanted_of
+step size frames at read fed got r g = by (all_read size frames at read) g
   where
     by : (b : Bool) → got ≤ cond b (size * min fed (frames - at)) 0 → read + got ≤ size * min (at + fed) frames
     by true h =
@@ -48,18 +48,18 @@ within count size frames at read (got ∷ gots) r h =
     omega arith
 
 -- all blocks together ask for no more than size·frames bytes
-pub never-more : (count size frames : ℕ) (gots : List ℕ) → Reads count size frames 0 0 gots → total gots ≤ size * frames
-never-more count size frames gots h = omega (arith, within count size frames 0 0 gots (omega arith) h)
+pub never_more : (count size frames : ℕ) (gots : List ℕ) → Reads count size frames 0 0 gots → total gots ≤ size * frames
+never_more count size frames gots h = omega (arith, within count size frames 0 0 gots (omega arith) h)
 
 -- .. which is no more than the `data` length
-pub within-the-data : (f : Found) (p : Plan) → planFor f ≡ accepted p → frameSize (count_of f.channels) f.format * p.frames ≤ f.size
-within-the-data f p = by (ltb largestData (3 * (count * frames)))
+pub within_the_data : (f : Found) (p : Plan) → plan_for f ≡ accepted p → frame_size (count_of f.channels) f.format * p.frames ≤ f.size
+within_the_data f p = by (ltb largest_data (3 * (count * frames)))
   where
     count : ℕ
     count = count_of f.channels
 
     size : ℕ
-    size = frameSize count f.format
+    size = frame_size count f.format
 
     frames : ℕ
     frames = f.size / size
@@ -67,8 +67,8 @@ within-the-data f p = by (ltb largestData (3 * (count * frames)))
     by : (b : Bool) → cond b (refused 26 0) (accepted (record { rate = f.rate; format = f.format; channels = f.channels; frames = frames; start = f.start })) ≡ accepted p →
         size * p.frames ≤ f.size
     by true e = let z : ◌≡◌ {A = ℕ} 0 1 = cc in absurd (omega arith)
-    by false e = subst (λ (n : ℕ). size * n ≤ f.size) (ap framesIn e) (mul-div-le f.size size)
+    by false e = subst (λ (n : ℕ). size * n ≤ f.size) (ap frames_in e) (mul-div-le f.size size)
       where
-        framesIn : Answer Plan → ℕ
-        framesIn (accepted q) = q.frames
-        framesIn (refused k p) = 0
+        frames_in : Answer Plan → ℕ
+        frames_in (accepted q) = q.frames
+        frames_in (refused k p) = 0

@@ -8,26 +8,26 @@ use native.Mathlib.Omega.{arith}
 use lib.ListN.{length, take, drop, replicate, length-append, length-drop, length-replicate, replicate-append-replicate}
 use lib.Seq.{take-append-le, drop-append-le}
 use lib.IntN.{ℤ, pos}
-use Rattle.samples.specs.Samples.{samplesOf}
+use Rattle.samples.specs.Samples.{samples_of}
 use Rattle.samples.specs.Format.{size_of}
-use Rattle.samples.specs.Sample.{sampleIn}
+use Rattle.samples.specs.Sample.{sample_in}
 use Rattle.samples.specs.declared.format.Format.{Format}
 use Rattle.samples.proofs.Taking.{length-samples}
 use Rattle.samples.specs.declared.format.Format.TheVariants.{Bits16, Bits24, Float32}
-use Rattle.eqfile.specs.Data.{samplesFrom}
+use Rattle.eqfile.specs.Data.{samples_from}
 
 -- whole samples, and then others
 samples-append : (a j : ℕ) (format : Format) (x y : List ℕ) → length x ≡ size_of format * a →
-    samplesOf (a + j) format (x ++ y) ≡ samplesOf a format x ++ samplesOf j format y
-unfolding samplesOf
-samples-append zero j format [] y l = ap (λ (k : ℕ). samplesOf k format y) (zero-add j)
+    samples_of (a + j) format (x ++ y) ≡ samples_of a format x ++ samples_of j format y
+unfolding samples_of
+samples-append zero j format [] y l = ap (λ (k : ℕ). samples_of k format y) (zero-add j)
 samples-append zero j format (b ∷ x) y l = absurd (omega arith)
 samples-append (suc a) j format x y l =
     let size = size_of format in
     let here : size ≤ length x = omega arith in
-    ap (λ (k : ℕ). samplesOf k format (x ++ y)) (suc-add a j) ∙
-    ap₂ (λ (s t : List ℕ). sampleIn format s ∷ samplesOf (a + j) format t) (take-append-le size x y here) (drop-append-le size x y here) ∙
-    ap (λ (t : List ℤ). sampleIn format (take size x) ∷ t) (samples-append a j format (drop size x) y (length-drop size x ∙ omega arith))
+    ap (λ (k : ℕ). samples_of k format (x ++ y)) (suc-add a j) ∙
+    ap₂ (λ (s t : List ℕ). sample_in format s ∷ samples_of (a + j) format t) (take-append-le size x y here) (drop-append-le size x y here) ∙
+    ap (λ (t : List ℤ). sample_in format (take size x) ∷ t) (samples-append a j format (drop size x) y (length-drop size x ∙ omega arith))
 
 -- ---- how many samples are wholly there, of so many bytes
 
@@ -59,39 +59,39 @@ both a b Float32 n m h = omega arith
 
 -- k samples that are wholly there, and z zeros
 from_is : (n k z : ℕ) (format : Format) (s : List ℕ) → min (length s / size_of format) n ≡ k → n - k ≡ z →
-    samplesFrom n format s ≡ samplesOf k format s ++ replicate z (pos 0)
-unfolding samplesFrom
-from_is n k z format s e f = ap (λ (j : ℕ). samplesOf j format s ++ replicate (n - j) (pos 0)) e ∙ ap (λ (j : ℕ). samplesOf k format s ++ replicate j (pos 0)) f
+    samples_from n format s ≡ samples_of k format s ++ replicate z (pos 0)
+unfolding samples_from
+from_is n k z format s e f = ap (λ (j : ℕ). samples_of j format s ++ replicate (n - j) (pos 0)) e ∙ ap (λ (j : ℕ). samples_of k format s ++ replicate j (pos 0)) f
 
-pub length_from : (n : ℕ) (format : Format) (s : List ℕ) → length (samplesFrom n format s) ≡ n
+pub length_from : (n : ℕ) (format : Format) (s : List ℕ) → length (samples_from n format s) ≡ n
 length_from n format s =
     let k = min (length s / size_of format) n in
-    ap length (from_is n k (n - k) format s refl refl) ∙ length-append (samplesOf k format s) (replicate (n - k) (pos 0)) ∙
+    ap length (from_is n k (n - k) format s refl refl) ∙ length-append (samples_of k format s) (replicate (n - k) (pos 0)) ∙
     ap₂ ◌+◌ (length-samples k format s) (length-replicate (n - k) (pos 0)) ∙ omega arith
 
 -- samples past the bytes are zeros
-pub more-zeros : (a b : ℕ) (format : Format) (s : List ℕ) → length s ≤ size_of format * a → samplesFrom (a + b) format s ≡ samplesFrom a format s ++ replicate b (pos 0)
-more-zeros a b format s l =
+pub more_zeros : (a b : ℕ) (format : Format) (s : List ℕ) → length s ≤ size_of format * a → samples_from (a + b) format s ≡ samples_from a format s ++ replicate b (pos 0)
+more_zeros a b format s l =
     let k = min (length s / size_of format) a in
     from_is (a + b) k (a - k + b) format s (fewer a b format (length s) l) (omega arith) ∙
-    ap (λ (z : List ℤ). samplesOf k format s ++ z) (sym (replicate-append-replicate (a - k) b (pos 0))) ∙
-    sym (append_assoc (samplesOf k format s) (replicate (a - k) (pos 0)) (replicate b (pos 0))) ∙
+    ap (λ (z : List ℤ). samples_of k format s ++ z) (sym (replicate-append-replicate (a - k) b (pos 0))) ∙
+    sym (append_assoc (samples_of k format s) (replicate (a - k) (pos 0)) (replicate b (pos 0))) ∙
     ap (λ (z : List ℤ). z ++ replicate b (pos 0)) (sym (from_is a k (a - k) format s refl refl))
 
 -- no bytes, only zeros
-pub no_bytes : (n : ℕ) (format : Format) → samplesFrom n format [] ≡ replicate n (pos 0)
-unfolding samplesOf
+pub no_bytes : (n : ℕ) (format : Format) → samples_from n format [] ≡ replicate n (pos 0)
+unfolding samples_of
 no_bytes n format = from_is n 0 n format [] (none n format) (sub-zero n)
 
 -- a block's bytes and those of the blocks after it: it has all of its own, or none follow
 pub from-append : (a b : ℕ) (format : Format) (x y : List ℕ) → length x ≤ size_of format * a → (length x ≡ size_of format * a) ⊎ (y ≡ []) →
-    samplesFrom a format x ++ samplesFrom b format y ≡ samplesFrom (a + b) format (x ++ y)
+    samples_from a format x ++ samples_from b format y ≡ samples_from (a + b) format (x ++ y)
 from-append a b format x y l (inl e) =
     let j = min (length y / size_of format) b in
-    ap₂ ◌++◌ (from_is a a 0 format x (all a format (length x) e) (omega arith) ∙ append-nil (samplesOf a format x)) (from_is b j (b - j) format y refl refl) ∙
-    sym (append_assoc (samplesOf a format x) (samplesOf j format y) (replicate (b - j) (pos 0))) ∙
+    ap₂ ◌++◌ (from_is a a 0 format x (all a format (length x) e) (omega arith) ∙ append-nil (samples_of a format x)) (from_is b j (b - j) format y refl refl) ∙
+    sym (append_assoc (samples_of a format x) (samples_of j format y) (replicate (b - j) (pos 0))) ∙
     ap (λ (s : List ℤ). s ++ replicate (b - j) (pos 0)) (sym (samples-append a j format x y e)) ∙
     sym (from_is (a + b) (a + j) (b - j) format (x ++ y) (both a b format (length (x ++ y)) (length y) (length-append x y ∙ ap (λ (k : ℕ). k + length y) e)) (omega arith))
 from-append a b format x y l (inr e) =
-    ap (λ (z : List ℕ). samplesFrom a format x ++ samplesFrom b format z) e ∙ ap (λ (z : List ℤ). samplesFrom a format x ++ z) (no_bytes b format) ∙
-    sym (more-zeros a b format x l) ∙ ap (samplesFrom (a + b) format) (sym (append-nil x) ∙ ap (λ (z : List ℕ). x ++ z) (sym e))
+    ap (λ (z : List ℕ). samples_from a format x ++ samples_from b format z) e ∙ ap (λ (z : List ℤ). samples_from a format x ++ z) (no_bytes b format) ∙
+    sym (more_zeros a b format x l) ∙ ap (samples_from (a + b) format) (sym (append-nil x) ∙ ap (λ (z : List ℕ). x ++ z) (sym e))

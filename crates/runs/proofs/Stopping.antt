@@ -11,43 +11,43 @@ use lib.ListN.{length}
 use lib.IntN.{ℤ}
 use Rattle.samples.specs.Channels.{count_of}
 use Rattle.samples.specs.Format.{size_of}
-use Rattle.samples.specs.Samples.{firstBad, bytes_of}
+use Rattle.samples.specs.Samples.{first_bad, bytes_of}
 use Rattle.samples.specs.declared.channels.Channels.{Channels}
 use Rattle.samples.specs.declared.format.Format.{Format}
 use Rattle.samples.specs.declared.format.Format.TheVariants.{Bits16, Bits24, Float32}
-use Rattle.samples.proofs.Judging.{all-16, all-24}
+use Rattle.samples.proofs.Judging.{all_16, all_24}
 use Rattle.wave_writer.specs.Header.{header}
-use Rattle.eqfile.specs.Data.{thereOf, samplesFrom, numbersFrom}
-use Rattle.eqfile.specs.Turn.{late, allRead, wantedOf, turn_of}
-use Rattle.runs.specs.Program.{State, fresh, handed, frameBytes, turnAt, after, framesOut}
+use Rattle.eqfile.specs.Data.{there_of, samples_from, numbers_from}
+use Rattle.eqfile.specs.Turn.{late, all_read, wanted_of, turn_of}
+use Rattle.runs.specs.Program.{State, fresh, handed, frame_bytes, turn_at, after, frames_out}
 use Rattle.runs.specs.Started.{Started}
-use Rattle.runs.specs.Stopped.{Stops, stoppedFile}
+use Rattle.runs.specs.Stopped.{Stops, stopped_file}
 use Rattle.runs.proofs.BlockCalls.{read_is}
 use Rattle.runs.proofs.SamplesInPieces.{none}
-use Rattle.runs.proofs.Program.{turns-write}
+use Rattle.runs.proofs.Program.{turns_write}
 
 -- ---- which blocks
 
 -- samples of whole numbers are all numbers
-pub whole_numbers : (n : ℕ) (format : Format) (s : List ℕ) → size_of format < 4 → numbersFrom n format s ≡ true
-unfolding numbersFrom
-whole_numbers n Bits16 s few = let k = thereOf n Bits16 s in le-leb k (firstBad k Bits16 s) (omega (arith, all-16 k s))
-whole_numbers n Bits24 s few = let k = thereOf n Bits24 s in le-leb k (firstBad k Bits24 s) (omega (arith, all-24 k s))
+pub whole_numbers : (n : ℕ) (format : Format) (s : List ℕ) → size_of format < 4 → numbers_from n format s ≡ true
+unfolding numbers_from
+whole_numbers n Bits16 s few = let k = there_of n Bits16 s in le-leb k (first_bad k Bits16 s) (omega (arith, all_16 k s))
+whole_numbers n Bits24 s few = let k = there_of n Bits24 s in le-leb k (first_bad k Bits24 s) (omega (arith, all_24 k s))
 whole_numbers n Float32 s few = absurd (omega arith)
 
 -- no bytes, no sample that is none
-pub no-numbers : (n : ℕ) (format : Format) (s : List ℕ) → length s ≡ 0 → numbersFrom n format s ≡ true
-unfolding numbersFrom
-no-numbers n format s e =
-    let nothing : thereOf n format s ≡ 0 = ap (λ (k : ℕ). min (k / size_of format) n) e ∙ none n format in
-    ap (λ (k : ℕ). leb k (firstBad k format s)) nothing ∙ le-leb 0 (firstBad 0 format s) (omega arith)
+pub no_numbers : (n : ℕ) (format : Format) (s : List ℕ) → length s ≡ 0 → numbers_from n format s ≡ true
+unfolding numbers_from
+no_numbers n format s e =
+    let nothing : there_of n format s ≡ 0 = ap (λ (k : ℕ). min (k / size_of format) n) e ∙ none n format in
+    ap (λ (k : ℕ). leb k (first_bad k format s)) nothing ∙ le-leb 0 (first_bad 0 format s) (omega arith)
 
 -- a block that asks for bytes asks for those of the file's next frames
-asked : (size frames at read fed : ℕ) → 0 < wantedOf size frames at read fed → (read ≡ size * min at frames) × (at < frames)
-unfolding wantedOf
-asked size frames at read fed h = by (allRead size frames at read) refl h
+asked : (size frames at read fed : ℕ) → 0 < wanted_of size frames at read fed → (read ≡ size * min at frames) × (at < frames)
+unfolding wanted_of
+asked size frames at read fed h = by (all_read size frames at read) refl h
   where
-    by : (b : Bool) → allRead size frames at read ≡ b → 0 < cond b (size * min fed (frames - at)) 0 → (read ≡ size * min at frames) × (at < frames)
+    by : (b : Bool) → all_read size frames at read ≡ b → 0 < cond b (size * min fed (frames - at)) 0 → (read ≡ size * min at frames) × (at < frames)
     by true e l =
         let left : 0 < frames - at =
         some (frames - at) (λ z. let n : min fed (frames - at) ≡ 0 = omega arith in omega (arith, ap (λ (k : ℕ). size * k) n ∙ mul-zero size)) in
@@ -63,30 +63,30 @@ module _ {gains : List ℤ} {format : Format} {channels : Channels} {frames : �
   end = after gains format channels frames (fresh channels) us
 
   -- only a file of floats stops
-  pub floats-stop : size_of format < 4 → ⊥
-  floats-stop few = true≢false (sym (whole_numbers (count_of channels * (turnAt format channels frames end).fed) format u few) ∙ st.bad)
+  pub floats_stop : size_of format < 4 → ⊥
+  floats_stop few = true≢false (sym (whole_numbers (count_of channels * (turn_at format channels frames end).fed) format u few) ∙ st.bad)
 
   came : (n : ℕ) → length u ≡ n → 0 < n
-  came zero e = absurd (true≢false (sym (no-numbers (count_of channels * (turnAt format channels frames end).fed) format u e) ∙ st.bad))
+  came zero e = absurd (true≢false (sym (no_numbers (count_of channels * (turn_at format channels frames end).fed) format u e) ∙ st.bad))
   came (suc n) e = omega arith
 
-  pub stop-asks : (end.read ≡ frameBytes format channels * min end.at frames) × (end.at < frames)
+  pub stop_asks : (end.read ≡ frame_bytes format channels * min end.at frames) × (end.at < frames)
   unfolding turn_of
-  stop-asks = asked (frameBytes format channels) frames end.at end.read (turnAt format channels frames end).fed (omega (arith, came (length u) refl, st.arrives.read-most))
+  stop_asks = asked (frame_bytes format channels) frames end.at end.read (turn_at format channels frames end).fed (omega (arith, came (length u) refl, st.arrives.read_most))
 
   -- the block holds frames of the file, and all bytes of the frames before it were read
-  pub stop-reads : (length (handed us) ≡ frameBytes format channels * end.at) × (end.at < frames)
-  stop-reads =
-      let here : min end.at frames ≡ end.at = omega (arith, stop-asks.1) in
-      (omega (arith, read_is gains format channels frames (fresh channels) us, stop-asks.0 ∙ ap (λ (k : ℕ). frameBytes format channels * k) here), stop-asks.1)
+  pub stop_reads : (length (handed us) ≡ frame_bytes format channels * end.at) × (end.at < frames)
+  stop_reads =
+      let here : min end.at frames ≡ end.at = omega (arith, stop_asks.1) in
+      (omega (arith, read_is gains format channels frames (fresh channels) us, stop_asks.0 ∙ ap (λ (k : ℕ). frame_bytes format channels * k) here), stop_asks.1)
 
 -- ---- what was written
 
 -- the header, and the outputs of the blocks before: of as many frames as were fed, but the delay
-pub stopped-is : {gains : List ℤ} {front : List ℕ} {rate : ℕ} {format : Format} {channels : Channels} {frames start : ℕ} → Started gains front rate format channels frames start →
+pub stopped_is : {gains : List ℤ} {front : List ℕ} {rate : ℕ} {format : Format} {channels : Channels} {frames start : ℕ} → Started gains front rate format channels frames start →
     (us : List (List ℕ)) (u : List ℕ) → Stops gains format channels frames us u → let at = (after gains format channels frames (fresh channels) us).at in
-    stoppedFile gains format channels frames rate us ≡
+    stopped_file gains format channels frames rate us ≡
     header rate (3 * (count_of channels * frames)) (count_of channels) ++
-    bytes_of (framesOut gains channels (at - late) (samplesFrom (count_of channels * at) format (handed us)))
-stopped-is {gains} {front} {rate} {format} {channels} {frames} s us u st =
-    ap (λ (l : List ℕ). header rate (3 * (count_of channels * frames)) (count_of channels) ++ l) (turns-write s.texts gains s.taken format channels frames us st.followed)
+    bytes_of (frames_out gains channels (at - late) (samples_from (count_of channels * at) format (handed us)))
+stopped_is {gains} {front} {rate} {format} {channels} {frames} s us u st =
+    ap (λ (l : List ℕ). header rate (3 * (count_of channels * frames)) (count_of channels) ++ l) (turns_write s.texts gains s.taken format channels frames us st.followed)

@@ -4,20 +4,20 @@ use Rattle.answers.specs.Checks.{Outcome}
 use Rattle.fields.specs.Bytes.{Bytes}
 use Rattle.frames.specs.Frames.{side_of, woven}
 use Rattle.tree.specs.Prototype.{published}
-use Rattle.tree.specs.Signal.{signalOf, gainOf}
+use Rattle.tree.specs.Signal.{signal_of, gain_of}
 use Rattle.tree.specs.Tree.{output}
 use Rattle.octave.specs.Memory.{prepared}
 use Rattle.history.specs.History.{from}
 use Rattle.samples.specs.Channels.{count_of}
 use Rattle.samples.specs.declared.channels.Channels.{Channels}
 use Rattle.samples.specs.declared.format.Format.{Format}
-use Rattle.wave_values.specs.Values.{frameSize}
+use Rattle.wave_values.specs.Values.{frame_size}
 use Rattle.blocks.specs.declared.block.Equalised.{Equalised}
 use Rattle.eqfile.specs.declared.turn.Turn.{Turn}
 use Rattle.arguments.specs.Arguments.{bands}
-use Rattle.eqfile.specs.Data.{samplesFrom, numbersFrom}
-use Rattle.eqfile.specs.Turn.{late, fedInAll, turn_of}
-use Rattle.blocks.specs.Equalise.{equaliseOf}
+use Rattle.eqfile.specs.Data.{samples_from, numbers_from}
+use Rattle.eqfile.specs.Turn.{late, fed_in_all, turn_of}
+use Rattle.blocks.specs.Equalise.{equalise_of}
 
 -- rule 10.10: where a run stands: the frames fed, the data bytes read, and the line memory
 pub record State : Type 0 where
@@ -31,7 +31,7 @@ fresh channels = record { at = 0; read = 0; memory = prepared bands (count_of ch
 
 -- rule 10.11: the bytes that were read for a turn: no more than it wants, fewer if data ends early
 pub record Arrives (turn : Turn) (piece : List ℕ) : Type 0 where
-  pub read-most : length piece ≤ turn.wanted
+  pub read_most : length piece ≤ turn.wanted
   pub bytes : Bytes piece
 
 -- rule 10.11: the data bytes read, joined
@@ -40,37 +40,37 @@ handed [] = []
 handed (u ∷ us) = u ++ handed us
 
 -- rule 10.6: the bytes of a frame of the file
-abbrev pub frameBytes : Format → Channels → ℕ
-frameBytes format channels = frameSize (count_of channels) format
+abbrev pub frame_bytes : Format → Channels → ℕ
+frame_bytes format channels = frame_size (count_of channels) format
 
 module _ (format : Format) (channels : Channels) (frames : ℕ) where
   -- rule 10.10: the turn that is next
-  abbrev pub turnAt : State → Turn
-  turnAt s = turn_of (count_of channels) (frameBytes format channels) frames s.at s.read
+  abbrev pub turn_at : State → Turn
+  turn_at s = turn_of (count_of channels) (frame_bytes format channels) frames s.at s.read
 
   -- rule 10.16: the samples of a turn that read some bytes
-  abbrev pub turnSamples : State → List ℕ → List ℤ
-  turnSamples s u = samplesFrom (count_of channels * (turnAt s).fed) format u
+  abbrev pub turn_samples : State → List ℕ → List ℤ
+  turn_samples s u = samples_from (count_of channels * (turn_at s).fed) format u
 
   -- rule 10.19: each of them that is wholly there is a number
-  abbrev pub turnNumbers : State → List ℕ → Bool
-  turnNumbers s u = numbersFrom (count_of channels * (turnAt s).fed) format u
+  abbrev pub turn_numbers : State → List ℕ → Bool
+  turn_numbers s u = numbers_from (count_of channels * (turn_at s).fed) format u
 
   -- rules 10.11, 10.19: the bytes of a turn by the plan: they arrive so, and each sample is a number
   pub record Follows (s : State) (u : List ℕ) : Type 0 where
-    pub arrives : Arrives (turnAt s) u
-    pub numbers : turnNumbers s u ≡ true
+    pub arrives : Arrives (turn_at s) u
+    pub numbers : turn_numbers s u ≡ true
 
 module _ (gains : List ℤ) (format : Format) (channels : Channels) (frames : ℕ) where
   -- rule 10.16: the block of a turn that read some bytes
-  abbrev pub blockDone : State → List ℕ → Outcome Equalised (List ℤ × List ℕ)
-  blockDone s u =
-      let t = turnAt format channels frames s in
-      equaliseOf s.memory gains (turnSamples format channels frames s u) (count_of channels * t.skipped) (replicate t.written 0)
+  abbrev pub block_done : State → List ℕ → Outcome Equalised (List ℤ × List ℕ)
+  block_done s u =
+      let t = turn_at format channels frames s in
+      equalise_of s.memory gains (turn_samples format channels frames s u) (count_of channels * t.skipped) (replicate t.written 0)
 
   -- rule 10.10: where a run stands after that turn
   abbrev pub next : State → List ℕ → State
-  next s u = record { at = s.at + (turnAt format channels frames s).fed; read = s.read + length u; memory = (blockDone s u).lent.0 }
+  next s u = record { at = s.at + (turn_at format channels frames s).fed; read = s.read + length u; memory = (block_done s u).lent.0 }
 
   -- rule 10.10: .. and after some turns
   unfoldable pub after : State → List (List ℕ) → State
@@ -84,26 +84,26 @@ module _ (gains : List ℤ) (format : Format) (channels : Channels) (frames : �
 
   -- rule 10.10: .. until the file's frames and the zeros that follow are all fed
   abbrev pub ByPlan : State → List (List ℕ) → Type 0
-  ByPlan s us = Followed s us × (fedInAll frames ≤ (after s us).at)
+  ByPlan s us = Followed s us × (fed_in_all frames ≤ (after s us).at)
 
   -- rule 10.8: the bytes that those turns hand over, joined
-  unfoldable pub programWrites : State → List (List ℕ) → List ℕ
-  programWrites s [] = []
-  programWrites s (u ∷ us) = (blockDone s u).lent.1 ++ programWrites (next s u) us
+  unfoldable pub program_writes : State → List (List ℕ) → List ℕ
+  program_writes s [] = []
+  program_writes s (u ∷ us) = (block_done s u).lent.1 ++ program_writes (next s u) us
 
 -- ---- what is written of what was read
 
 -- rule 10.9: of one side's samples: output n + 1,143, for so many n
-abbrev pub outputsOf : (gains : List ℤ) (frames : ℕ) → List ℤ → List ℤ
-outputsOf gains frames xs = from late frames (output published bands (λ _. gainOf gains) (signalOf xs))
+abbrev pub outputs_of : (gains : List ℤ) (frames : ℕ) → List ℤ → List ℤ
+outputs_of gains frames xs = from late frames (output published bands (λ _. gain_of gains) (signal_of xs))
 
 -- rule 10.9: .. and of all sides, frame by frame
-abbrev pub framesOut : (gains : List ℤ) (channels : Channels) (frames : ℕ) → List ℤ → List ℤ
-framesOut gains channels frames xs = woven (count_of channels) frames (λ s. outputsOf gains frames (side_of (count_of channels) s xs))
+abbrev pub frames_out : (gains : List ℤ) (channels : Channels) (frames : ℕ) → List ℤ → List ℤ
+frames_out gains channels frames xs = woven (count_of channels) frames (λ s. outputs_of gains frames (side_of (count_of channels) s xs))
 
 -- rule 10.12: the file's samples, from the bytes that were read
-abbrev pub samplesRead : (format : Format) (channels : Channels) (frames : ℕ) → List ℕ → List ℤ
-samplesRead format channels frames bytes = samplesFrom (count_of channels * frames) format bytes
+abbrev pub samples_read : (format : Format) (channels : Channels) (frames : ℕ) → List ℕ → List ℤ
+samples_read format channels frames bytes = samples_from (count_of channels * frames) format bytes
 
 -- ---- where the bytes come from
 
@@ -117,4 +117,4 @@ module _ (gains : List ℤ) (format : Format) (channels : Channels) (frames : �
   -- rule 10.11: each turn's bytes are fetched so: those of the front begin where the bytes read so far end
   unfoldable pub AllFetched : State → List (List ℕ) → Type 0
   AllFetched s [] = Unit {0}
-  AllFetched s (u ∷ us) = Fetched front (start + s.read) (turnAt format channels frames s).wanted u × AllFetched (next gains format channels frames s u) us
+  AllFetched s (u ∷ us) = Fetched front (start + s.read) (turn_at format channels frames s).wanted u × AllFetched (next gains format channels frames s u) us

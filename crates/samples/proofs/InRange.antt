@@ -7,49 +7,49 @@ use native.Mathlib.Omega.{arith}
 use lib.ListN.{length, take, drop, length-take}
 use lib.IntN.{ℤ}
 use lib.Ieee.{binary32, of_bits}
-use Rattle.answers.specs.First.{firstFailing}
-use Rattle.answers.specs.Range.{within, allWithin}
-use Rattle.answers.specs.Unit.{leastSample, mostSample}
-use Rattle.answers.proofs.Ranges.{all_cons, cons-all}
+use Rattle.answers.specs.First.{first_failing}
+use Rattle.answers.specs.Range.{within, all_within}
+use Rattle.answers.specs.Unit.{least_sample, most_sample}
+use Rattle.answers.proofs.Ranges.{all_cons, cons_all}
 use Rattle.fields.specs.Bytes.{Bytes, lowest, number_in}
 use Rattle.fields.proofs.Numbers.{bytes_take, bytes_drop}
-use Rattle.fields.proofs.Rows.{number-in-below}
-use Rattle.floats.proofs.InRange.{float-within}
-use Rattle.samples.specs.Sample.{sampleIn}
-use Rattle.samples.specs.Samples.{samplesOf}
+use Rattle.fields.proofs.Rows.{number_in-below}
+use Rattle.floats.proofs.InRange.{float_within}
+use Rattle.samples.specs.Sample.{sample_in}
+use Rattle.samples.specs.Samples.{samples_of}
 use Rattle.samples.specs.Format.{size_of}
 use Rattle.samples.specs.declared.format.Format.{Format}
 use Rattle.samples.specs.declared.format.Format.TheVariants.{Bits16, Bits24, Float32}
-use Rattle.samples.proofs.Codec.{times-256}
-use Rattle.samples.proofs.Complement.{number-in-range}
+use Rattle.samples.proofs.Codec.{times_256}
+use Rattle.samples.proofs.Complement.{number_in_range}
 
 -- ---- ranges of lists
 
-none_within : (lo hi : ℤ) → allWithin lo hi [] ≡ true
-unfolding firstFailing
+none_within : (lo hi : ℤ) → all_within lo hi [] ≡ true
+unfolding first_failing
 none_within lo hi = refl
 
-pub all_append : (lo hi : ℤ) (s t : List ℤ) → allWithin lo hi s ≡ true → allWithin lo hi t ≡ true → allWithin lo hi (s ++ t) ≡ true
+pub all_append : (lo hi : ℤ) (s t : List ℤ) → all_within lo hi s ≡ true → all_within lo hi t ≡ true → all_within lo hi (s ++ t) ≡ true
 all_append lo hi [] t h k = k
-all_append lo hi (z ∷ s) t h k = let a = all_cons lo hi z s h in cons-all lo hi z (s ++ t) a.0 (all_append lo hi s t a.1 k)
+all_append lo hi (z ∷ s) t h k = let a = all_cons lo hi z s h in cons_all lo hi z (s ++ t) a.0 (all_append lo hi s t a.1 k)
 
 -- ---- samples of bytes
 
-pub sample-in-range : (format : Format) (s : List ℕ) → Bytes s → length s ≤ size_of format → within leastSample mostSample (sampleIn format s) ≡ true
-unfolding sampleIn
-sample-in-range Bits16 s bytes h =
-    let small : number_in lowest s < 65536 = number-in-below lowest 2 s bytes h in
-    ap (within leastSample mostSample) (times-256 (number_in lowest s) small) ∙ number-in-range (256 * number_in lowest s) (omega arith)
-sample-in-range Bits24 s bytes h = number-in-range (number_in lowest s) (number-in-below lowest 3 s bytes h)
-sample-in-range Float32 s bytes h = float-within (of_bits binary32 (number_in lowest s))
+pub sample_in_range : (format : Format) (s : List ℕ) → Bytes s → length s ≤ size_of format → within least_sample most_sample (sample_in format s) ≡ true
+unfolding sample_in
+sample_in_range Bits16 s bytes h =
+    let small : number_in lowest s < 65536 = number_in-below lowest 2 s bytes h in
+    ap (within least_sample most_sample) (times_256 (number_in lowest s) small) ∙ number_in_range (256 * number_in lowest s) (omega arith)
+sample_in_range Bits24 s bytes h = number_in_range (number_in lowest s) (number_in-below lowest 3 s bytes h)
+sample_in_range Float32 s bytes h = float_within (of_bits binary32 (number_in lowest s))
 
 -- .. of a block
-pub samples-in-range : (n : ℕ) (format : Format) (s : List ℕ) → Bytes s → allWithin leastSample mostSample (samplesOf n format s) ≡ true
-unfolding samplesOf
-samples-in-range zero format s bytes = none_within leastSample mostSample
-samples-in-range (suc n) format s bytes =
+pub samples_in_range : (n : ℕ) (format : Format) (s : List ℕ) → Bytes s → all_within least_sample most_sample (samples_of n format s) ≡ true
+unfolding samples_of
+samples_in_range zero format s bytes = none_within least_sample most_sample
+samples_in_range (suc n) format s bytes =
     let size = size_of format in
     let l = length-take size s in
-    cons-all leastSample mostSample (sampleIn format (take size s)) (samplesOf n format (drop size s))
-    (sample-in-range format (take size s) (bytes_take size s bytes) (omega arith))
-    (samples-in-range n format (drop size s) (bytes_drop size s bytes))
+    cons_all least_sample most_sample (sample_in format (take size s)) (samples_of n format (drop size s))
+    (sample_in_range format (take size s) (bytes_take size s bytes) (omega arith))
+    (samples_in_range n format (drop size s) (bytes_drop size s bytes))

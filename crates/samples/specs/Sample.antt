@@ -5,10 +5,10 @@ use Rattle.std.specs.Float.Ieee.{of_bits}
 use Rattle.answers.specs.Answer.{Answer, accepted, refused}
 use Rattle.answers.specs.Checks.{Check, check, Outcome, decide}
 use Rattle.answers.specs.Range.{within}
-use Rattle.answers.specs.Unit.{leastSample, mostSample}
+use Rattle.answers.specs.Unit.{least_sample, most_sample}
 use Rattle.fields.specs.Bytes.{lowest, number_in, row}
-use Rattle.floats.specs.Value.{floatSample}
-use Rattle.floats.specs.Block.{isSample, sampleOr0}
+use Rattle.floats.specs.Value.{float_sample}
+use Rattle.floats.specs.Block.{is_sample, sample_or0}
 use Rattle.floats.specs.declared.code.FloatSample.{FloatSample}
 use Rattle.samples.specs.declared.format.Format.{Format}
 use Rattle.samples.specs.declared.format.Format.TheVariants.{Bits16, Bits24, Float32}
@@ -28,44 +28,44 @@ code_of (negsuc n) = 2 ^ 24 - suc n
 
 -- rule 9.9: the float in four bytes, as a sample
 abbrev pub float_in : List ℕ → FloatSample
-float_in s = floatSample (of_bits binary32 (number_in lowest s))
+float_in s = float_sample (of_bits binary32 (number_in lowest s))
 
 -- rule 9.9: whether the bytes of a format are a sample: of whole numbers all are
-unfoldable pub isSampleIn : Format → List ℕ → Bool
-isSampleIn Bits16 s = true
-isSampleIn Bits24 s = true
-isSampleIn Float32 s = isSample (float_in s)
+unfoldable pub is_sample_in : Format → List ℕ → Bool
+is_sample_in Bits16 s = true
+is_sample_in Bits24 s = true
+is_sample_in Float32 s = is_sample (float_in s)
 
 -- rules 9.4, 9.9: the sample in the bytes of a format
-unfoldable pub sampleIn : Format → List ℕ → ℤ
-sampleIn Bits16 s = number_of 16 (number_in lowest s) *ℤ pos 256
-sampleIn Bits24 s = number_of 24 (number_in lowest s)
-sampleIn Float32 s = sampleOr0 (float_in s)
+unfoldable pub sample_in : Format → List ℕ → ℤ
+sample_in Bits16 s = number_of 16 (number_in lowest s) *ℤ pos 256
+sample_in Bits24 s = number_of 24 (number_in lowest s)
+sample_in Float32 s = sample_or0 (float_in s)
 
 -- rule 9.4: `sample_from_bytes`: two bytes, three, or another number of them
-unfoldable pub fromBytes : List ℕ → Sample
-fromBytes s =
-    cond (eqb (length s) 2) (sample.Is (sampleIn Bits16 s))
-    (cond (eqb (length s) 3) (sample.Is (sampleIn Bits24 s))
+unfoldable pub from_bytes : List ℕ → Sample
+from_bytes s =
+    cond (eqb (length s) 2) (sample.Is (sample_in Bits16 s))
+    (cond (eqb (length s) 3) (sample.Is (sample_in Bits24 s))
     sample.WrongLength)
 
 -- rule 6.8: the checks of `sample_to_bytes`: three bytes, and a number in the range
-abbrev pub putChecks : ℤ → List ℕ → List (Check Put)
-putChecks z buffer =
+abbrev pub put_checks : ℤ → List ℕ → List (Check Put)
+put_checks z buffer =
     check (eqb (length buffer) 3) put.WrongLength ∷
-    check (within leastSample mostSample z) put.OutOfRange ∷ []
+    check (within least_sample most_sample z) put.OutOfRange ∷ []
 
 -- rule 9.3: `sample_to_bytes`, with the buffer afterwards
 unfoldable pub to_bytes : ℤ → List ℕ → Outcome Put (List ℕ)
-to_bytes z buffer = decide (putChecks z buffer) buffer (put.Done 3) (row lowest 3 (code_of z))
+to_bytes z buffer = decide (put_checks z buffer) buffer (put.Done 3) (row lowest 3 (code_of z))
 
 -- rule 6.8: numbers and values for `Sample`
-abbrev pub sampleAnswer : Sample → Answer ℤ
-sampleAnswer (sample.Is z) = accepted z
-sampleAnswer sample.WrongLength = refused 18 0
+abbrev pub sample_answer : Sample → Answer ℤ
+sample_answer (sample.Is z) = accepted z
+sample_answer sample.WrongLength = refused 18 0
 
 -- rule 6.8: numbers and values for `Put`
-abbrev pub putAnswer : Put → Answer ℕ
-putAnswer (put.Done n) = accepted n
-putAnswer put.WrongLength = refused 18 0
-putAnswer put.OutOfRange = refused 19 0
+abbrev pub put_answer : Put → Answer ℕ
+put_answer (put.Done n) = accepted n
+put_answer put.WrongLength = refused 18 0
+put_answer put.OutOfRange = refused 19 0

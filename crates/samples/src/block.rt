@@ -1,9 +1,9 @@
 // The sample codec by the block. Everything is judged before anything is written.
 ghost use Rattle.std.specs.Prelude.{◌≡◌, true, ◌*◌, length};
 ghost use Rattle.answers.specs.Checks.{Done};
-ghost use Rattle.answers.specs.Range.{allWithin};
-ghost use Rattle.answers.specs.Unit.{leastSample, mostSample};
-ghost use Rattle.samples.specs.Samples.{samplesOf, firstBad, blockFrom, bytes_of, blockTo};
+ghost use Rattle.answers.specs.Range.{all_within};
+ghost use Rattle.answers.specs.Unit.{least_sample, most_sample};
+ghost use Rattle.samples.specs.Samples.{samples_of, first_bad, block_from, bytes_of, block_to};
 ghost use Rattle.samples.specs.Format.{size_of};
 ghost use Rattle.samples.specs.declared.format.Format.TheVariants.{Float32};
 
@@ -42,7 +42,7 @@ pub enum Stored {
 // The place of the first of so many floats that is no number, their number where none is.
 fn first_bad_float(bytes: &[u8], count: usize) -> usize
     requires { length bytes.now ≡ 4 * count }
-    ensures { result ≡ firstBad count Float32 bytes.now }
+    ensures { result ≡ first_bad count Float32 bytes.now }
 {
     let mut i = 0;
     while i < count {
@@ -57,7 +57,7 @@ fn first_bad_float(bytes: &[u8], count: usize) -> usize
 // The same of any format: only a float can be no number.
 fn first_bad(bytes: &[u8], format: Format, count: usize) -> usize
     requires { length bytes.now ≡ size_of format * count }
-    ensures { result ≡ firstBad count format bytes.now }
+    ensures { result ≡ first_bad count format bytes.now }
 {
     match format {
         Format::Bits16 => count,
@@ -68,7 +68,7 @@ fn first_bad(bytes: &[u8], format: Format, count: usize) -> usize
 
 fn take_all(bytes: &[u8], format: Format, samples: &mut [i32])
     requires { length bytes.now ≡ size_of format * length samples.old }
-    ensures { samples.new ≡ samplesOf (length samples.old) format bytes.now }
+    ensures { samples.new ≡ samples_of (length samples.old) format bytes.now }
 {
     let size = bytes_each(format) as usize;
     let mut i = 0;
@@ -82,7 +82,7 @@ fn take_all(bytes: &[u8], format: Format, samples: &mut [i32])
 
 // The samples in bytes of a format, one after the other.
 pub fn bytes_to_samples(bytes: &[u8], format: Format, samples: &mut [i32]) -> Taken
-    ensures { Done (blockFrom bytes.now format samples.old) result samples.new }
+    ensures { Done (block_from bytes.now format samples.old) result samples.new }
 {
     let size = bytes_each(format) as usize;
     if bytes.len() % size != 0 {
@@ -100,7 +100,7 @@ pub fn bytes_to_samples(bytes: &[u8], format: Format, samples: &mut [i32]) -> Ta
 }
 
 fn store_all(samples: &[i32], buffer: &mut [u8])
-    requires { (length buffer.old ≡ 3 * length samples.now) × (allWithin leastSample mostSample samples.now ≡ true) }
+    requires { (length buffer.old ≡ 3 * length samples.now) × (all_within least_sample most_sample samples.now ≡ true) }
     ensures { buffer.new ≡ bytes_of samples.now }
 {
     let mut i = 0;
@@ -114,7 +114,7 @@ fn store_all(samples: &[i32], buffer: &mut [u8])
 
 // Writes the three bytes of each sample, one after the other.
 pub fn samples_to_bytes(samples: &[i32], buffer: &mut [u8]) -> Stored
-    ensures { Done (blockTo samples.now buffer.old) result buffer.new }
+    ensures { Done (block_to samples.now buffer.old) result buffer.new }
 {
     if buffer.len() != 3 * samples.len() {
         return Stored::WrongLength;

@@ -1,7 +1,7 @@
 // A sample's code: the 24 bits of its two's complement, as a number below 2 ^ 24.
 ghost use Rattle.std.specs.Prelude.{◌≡◌, ◌<◌, ◌^◌, true};
 ghost use Rattle.answers.specs.Range.{within};
-ghost use Rattle.answers.specs.Unit.{leastSample, mostSample};
+ghost use Rattle.answers.specs.Unit.{least_sample, most_sample};
 ghost use Rattle.samples.specs.Sample.{number_of, code_of};
 
 // The number that a code stands for.
@@ -15,7 +15,7 @@ pub(crate) fn number(code: u32) -> i32
 
 // The code of a number in the range.
 pub(crate) fn code_of(sample: i32) -> u32
-    requires { within leastSample mostSample sample ≡ true }
+    requires { within least_sample most_sample sample ≡ true }
     ensures { (result ≡ code_of sample) × (result < 2 ^ 24) }
 {
     if sample < 0 {

@@ -1,7 +1,7 @@
 // The sample codec, one sample at a time.
 ghost use Rattle.std.specs.Prelude.{◌≡◌, ◌+◌, ◌≤◌, length, take, drop};
 ghost use Rattle.answers.specs.Checks.{Done};
-ghost use Rattle.samples.specs.Sample.{sampleIn, fromBytes, to_bytes};
+ghost use Rattle.samples.specs.Sample.{sample_in, from_bytes, to_bytes};
 ghost use Rattle.samples.specs.Format.{size_of};
 
 use crate::code::{code_of, number};
@@ -33,7 +33,7 @@ pub enum Put {
 // The sample of a format in the bytes at a place.
 pub(crate) fn sample_at(bytes: &[u8], at: usize, format: Format) -> i32
     requires { at + size_of format ≤ length bytes.now }
-    ensures { result ≡ sampleIn format (take (size_of format) (drop at bytes.now)) }
+    ensures { result ≡ sample_in format (take (size_of format) (drop at bytes.now)) }
 {
     match format {
         Format::Bits16 => number(256 * two(bytes, at)),
@@ -44,7 +44,7 @@ pub(crate) fn sample_at(bytes: &[u8], at: usize, format: Format) -> i32
 
 // The sample in two bytes, taken times 256, or in three.
 pub fn sample_from_bytes(bytes: &[u8]) -> Sample
-    ensures { result ≡ fromBytes bytes.now }
+    ensures { result ≡ from_bytes bytes.now }
 {
     if bytes.len() == 2 {
         return Sample::Is(sample_at(bytes, 0, Format::Bits16));

@@ -6,20 +6,20 @@ use native.Mathlib.Omega.{arith}
 use lib.Pow.{pow-add}
 use lib.IntN.{ℤ, pos, nat_abs, ◌+ℤ◌, ◌-ℤ◌, ◌*ℤ◌}
 use Rattle.whole.specs.Nearest.{nearest}
-use Rattle.whole.proofs.Signed.{var, lit, ◌⊕◌, ◌⊖◌, ◌⊗◌, eq-by}
+use Rattle.whole.proofs.Signed.{var, lit, ◌⊕◌, ◌⊖◌, ◌⊗◌, eq_by}
 use Rattle.whole.proofs.Magnitude.{abs-+ℤ, abs-*ℤ}
-use Rattle.whole.proofs.Nearest.{nearest-error}
+use Rattle.whole.proofs.Nearest.{nearest_error}
 use Rattle.tree.specs.Prototype.{Prototype, scale, magnitudes}
 use Rattle.tree.specs.Signal.{Signal}
-use Rattle.tree.specs.Tree.{weighted, lowPass, level, line}
-use Rattle.tree.specs.Exact.{commonScale, exactLevel, onWhole, allowanceAt, allowance}
-use Rattle.tree.proofs.Weighted.{weighted--, weighted-*, weighted-abs}
+use Rattle.tree.specs.Tree.{weighted, low_pass, level, line}
+use Rattle.tree.specs.Exact.{common_scale, exact_level, on_whole, allowance_at, allowance}
+use Rattle.tree.proofs.Weighted.{weighted--, weighted-*, weighted_abs}
 
 -- one low-pass, s to s' and e to e': where |S·s - e| ≤ A up to n, |100,000·S·s' - e'| ≤ magnitudes·A + 50,000·S at n
-low-pass-near : (p : Prototype) (L S A : ℕ) (s e : Signal) (n : ℕ) → ((k : ℕ) → k ≤ n → nat_abs (pos S *ℤ s k -ℤ e k) ≤ A) →
-    nat_abs (pos (scale * S) *ℤ lowPass p L s n -ℤ weighted p L e n) ≤ magnitudes p * A + scale / 2 * S
-unfolding lowPass
-low-pass-near p L S A s e n near =
+low_pass_near : (p : Prototype) (L S A : ℕ) (s e : Signal) (n : ℕ) → ((k : ℕ) → k ≤ n → nat_abs (pos S *ℤ s k -ℤ e k) ≤ A) →
+    nat_abs (pos (scale * S) *ℤ low_pass p L s n -ℤ weighted p L e n) ≤ magnitudes p * A + scale / 2 * S
+unfolding low_pass
+low_pass_near p L S A s e n near =
     rw parts
     (le_trans (abs-+ℤ (pos S *ℤ w -ℤ v) (pos S *ℤ off))
     (add-le-add carried (rw (abs-*ℤ (pos S) off, mul_comm (scale / 2) S) (mul-le-mul_left S half))))
@@ -35,31 +35,31 @@ low-pass-near p L S A s e n near =
 
     parts : pos (scale * S) *ℤ nearest scale w -ℤ v ≡ pos S *ℤ w -ℤ v +ℤ pos S *ℤ off
     parts =
-        eq-by (lit (scale * S) ⊗ var (nearest scale w) ⊖ var v)
+        eq_by (lit (scale * S) ⊗ var (nearest scale w) ⊖ var v)
         (lit S ⊗ var w ⊖ var v ⊕ lit S ⊗ (lit scale ⊗ var (nearest scale w) ⊖ var w)) (omega arith)
 
     half : nat_abs off ≤ scale / 2
-    half = omega (arith, nearest-error scale (omega arith) w)
+    half = omega (arith, nearest_error scale (omega arith) w)
 
     carried : nat_abs (pos S *ℤ w -ℤ v) ≤ magnitudes p * A
     carried =
         rw (← (weighted-* p L (pos S) s n), ← (weighted-- p L (λ k. pos S *ℤ s k) e n))
-        (weighted-abs p L (λ k. pos S *ℤ s k -ℤ e k) n A near)
+        (weighted_abs p L (λ k. pos S *ℤ s k -ℤ e k) n A near)
 
 module _ (p : Prototype) (x : Signal) where
   -- the rounded level j, brought to the exact level's scale 100,000^j, is within its allowance
-  pub level-near : (j n : ℕ) → nat_abs (pos (scale ^ j) *ℤ level p j x n -ℤ exactLevel p j x n) ≤ allowanceAt p j
-  unfolding level exactLevel allowanceAt
-  level-near zero n = rw (eq-by (lit 1 ⊗ var (x n) ⊖ var (x n)) (lit 0) (omega arith)) (le_refl 0)
-  level-near (suc j) n =
+  pub level_near : (j n : ℕ) → nat_abs (pos (scale ^ j) *ℤ level p j x n -ℤ exact_level p j x n) ≤ allowance_at p j
+  unfolding level exact_level allowance_at
+  level_near zero n = rw (eq_by (lit 1 ⊗ var (x n) ⊖ var (x n)) (lit 0) (omega arith)) (le_refl 0)
+  level_near (suc j) n =
       rw (pow-succ' scale j)
-      (low-pass-near p (2 ^ j) (scale ^ j) (allowanceAt p j) (level p j x) (exactLevel p j x) n (λ k _. level-near j k))
+      (low_pass_near p (2 ^ j) (scale ^ j) (allowance_at p j) (level p j x) (exact_level p j x) n (λ k _. level_near j k))
 
   -- the same of line k, on the common scale P
-  pub line-near : (M k n : ℕ) → 1 ≤ k → k ≤ M →
-      nat_abs (pos (commonScale M) *ℤ line p M x k n -ℤ onWhole p M x k n) ≤ allowance p M k * scale ^ (k - 1)
-  line-near M k n l h =
-      rw (P-is, shared, abs-*ℤ (pos a) off, mul_comm (allowance p M k) a) (mul-le-mul_left a (level-near (M - k) n))
+  pub line_near : (M k n : ℕ) → 1 ≤ k → k ≤ M →
+      nat_abs (pos (common_scale M) *ℤ line p M x k n -ℤ on_whole p M x k n) ≤ allowance p M k * scale ^ (k - 1)
+  line_near M k n l h =
+      rw (P_is, shared, abs-*ℤ (pos a) off, mul_comm (allowance p M k) a) (mul-le-mul_left a (level_near (M - k) n))
     where
       a : ℕ
       a = scale ^ (k - 1)
@@ -68,15 +68,15 @@ module _ (p : Prototype) (x : Signal) where
       b = scale ^ (M - k)
 
       off : ℤ
-      off = pos b *ℤ line p M x k n -ℤ exactLevel p (M - k) x n
+      off = pos b *ℤ line p M x k n -ℤ exact_level p (M - k) x n
 
       exponents : M - 1 ≡ k - 1 + (M - k)
       exponents = omega arith
 
-      P-is : commonScale M ≡ a * b
-      P-is = ap (λ (e : ℕ). scale ^ e) exponents ∙ pow-add scale (k - 1) (M - k)
+      P_is : common_scale M ≡ a * b
+      P_is = ap (λ (e : ℕ). scale ^ e) exponents ∙ pow-add scale (k - 1) (M - k)
 
-      shared : pos (a * b) *ℤ line p M x k n -ℤ pos a *ℤ exactLevel p (M - k) x n ≡ pos a *ℤ off
+      shared : pos (a * b) *ℤ line p M x k n -ℤ pos a *ℤ exact_level p (M - k) x n ≡ pos a *ℤ off
       shared =
-          eq-by (lit (a * b) ⊗ var (line p M x k n) ⊖ lit a ⊗ var (exactLevel p (M - k) x n))
-          (lit a ⊗ (lit b ⊗ var (line p M x k n) ⊖ var (exactLevel p (M - k) x n))) (omega arith)
+          eq_by (lit (a * b) ⊗ var (line p M x k n) ⊖ lit a ⊗ var (exact_level p (M - k) x n))
+          (lit a ⊗ (lit b ⊗ var (line p M x k n) ⊖ var (exact_level p (M - k) x n))) (omega arith)

@@ -14,11 +14,11 @@ pub symmetric : reverse published.coefficients ≡ published.coefficients
 symmetric = refl
 
 -- rule 2.3: the sum
-pub adds-up : sum (taps published) (coefficient published) ≡ pos 100016
+pub adds_up : sum (taps published) (coefficient published) ≡ pos 100016
 unfolding sum
-adds-up = refl
+adds_up = refl
 
 -- rule 2.4: the sum of the magnitudes
-pub magnitudes-add-up : magnitudes published ≡ 140240
+pub magnitudes_add_up : magnitudes published ≡ 140240
 unfolding sumℕ
-magnitudes-add-up = refl
+magnitudes_add_up = refl

@@ -2,8 +2,8 @@
 use mathlib.Core.Path.{◌≡◌, ap, ◌∙◌}
 use Prim.Native.Nat.{ℕ, ◌*◌, ◌≤◌}
 use lib.IntN.{ℤ, nat_abs, ◌-ℤ◌, ◌*ℤ◌}
-use Rattle.whole.proofs.Ring.{*ℤ-distribˡ--ℤ, *ℤ-left-comm}
-use Rattle.whole.proofs.Sums.{sum-ext, sum--, sum-*, abs-sum-*}
+use Rattle.whole.proofs.Ring.{*ℤ-distribˡ--ℤ, *ℤ-left_comm}
+use Rattle.whole.proofs.Sums.{sum-ext, sum--, sum-*, abs_sum-*}
 use Rattle.tree.specs.Prototype.{Prototype, coefficient, taps, magnitudes}
 use Rattle.tree.specs.Signal.{Signal, back}
 use Rattle.tree.specs.Tree.{weighted}
@@ -21,9 +21,9 @@ module _ (p : Prototype) (L : ℕ) where
   unfolding weighted
   weighted-* c s n =
       sum-ext (taps p)
-      (λ i _. ap (λ (z : ℤ). coefficient p i *ℤ z) (back-* c s n (L * i)) ∙ *ℤ-left-comm (coefficient p i) c (back s n (L * i))) ∙
+      (λ i _. ap (λ (z : ℤ). coefficient p i *ℤ z) (back-* c s n (L * i)) ∙ *ℤ-left_comm (coefficient p i) c (back s n (L * i))) ∙
       sum-* (taps p) c (λ i. coefficient p i *ℤ back s n (L * i))
 
-  pub weighted-abs : (s : Signal) (n X : ℕ) → ((k : ℕ) → k ≤ n → nat_abs (s k) ≤ X) → nat_abs (weighted p L s n) ≤ magnitudes p * X
+  pub weighted_abs : (s : Signal) (n X : ℕ) → ((k : ℕ) → k ≤ n → nat_abs (s k) ≤ X) → nat_abs (weighted p L s n) ≤ magnitudes p * X
   unfolding weighted
-  weighted-abs s n X h = abs-sum-* (taps p) (coefficient p) (λ i. back s n (L * i)) X (λ i _. back-abs s n (L * i) X h)
+  weighted_abs s n X h = abs_sum-* (taps p) (coefficient p) (λ i. back s n (L * i)) X (λ i _. back-abs s n (L * i) X h)

@@ -10,9 +10,9 @@ abbrev pub back : Signal → ℕ → ℕ → ℤ
 back s n d = cond (leb d n) (s (n - d)) (pos 0)
 
 -- rule 3.1: the samples of a list in turn, zeros after them
-abbrev pub signalOf : List ℤ → Signal
-signalOf xs n = get_or xs n (pos 0)
+abbrev pub signal_of : List ℤ → Signal
+signal_of xs n = get_or xs n (pos 0)
 
 -- rule 1.3: the gain of band m from a list of gains, the lowest first
-abbrev pub gainOf : List ℤ → ℕ → ℤ
-gainOf gs m = get_or gs (m - 1) (pos 0)
+abbrev pub gain_of : List ℤ → ℕ → ℤ
+gain_of gs m = get_or gs (m - 1) (pos 0)

@@ -1,6 +1,6 @@
 -- The tree, over any prototype p. Bands are counted from 1, the lowest; the gain of band m at sample n is `g n m`.
 use Rattle.std.specs.Prelude.{ℕ, zero, suc, ◌+◌, ◌-◌, ◌*◌, ◌^◌, ℤ, pos, ◌-ℤ◌, ◌*ℤ◌}
-use Rattle.answers.specs.Unit.{leastSample, mostSample, unity}
+use Rattle.answers.specs.Unit.{least_sample, most_sample, unity}
 use Rattle.whole.specs.Nearest.{nearest}
 use Rattle.whole.specs.Limit.{limit}
 use Rattle.whole.specs.Sum.{sum}
@@ -13,13 +13,13 @@ module _ (p : Prototype) where
   weighted L s n = sum (taps p) (λ i. coefficient p i *ℤ back s n (L * i))
 
   -- rule 3.4: over 100,000, rounded
-  unfoldable pub lowPass : ℕ → Signal → Signal
-  lowPass L s n = nearest scale (weighted L s n)
+  unfoldable pub low_pass : ℕ → Signal → Signal
+  low_pass L s n = nearest scale (weighted L s n)
 
   -- rule 3.5: the input after j low-passes, the stretch doubling
   unfoldable pub level : ℕ → Signal → Signal
   level zero x = x
-  level (suc j) x = lowPass (2 ^ j) (level j x)
+  level (suc j) x = low_pass (2 ^ j) (level j x)
 
   -- rules 3.2, 3.5: line k of M, the input after M - k low-passes
   abbrev pub line : ℕ → Signal → ℕ → Signal
@@ -36,19 +36,19 @@ module _ (p : Prototype) where
   band M lines (suc (suc m)) n = back (lines (suc (suc m))) n (p.centre * 2 ^ (M - suc (suc m))) -ℤ lines (suc m) n
 
   -- rule 3.8: by t - D·(2^(M+1-m) - 1); band 1 by nothing
-  unfoldable pub holdBack : ℕ → ℕ → ℕ
-  holdBack M zero = 0
-  holdBack M (suc zero) = 0
-  holdBack M (suc (suc m)) = delay M - p.centre * (2 ^ (M + 1 - suc (suc m)) - 1)
+  unfoldable pub hold_back : ℕ → ℕ → ℕ
+  hold_back M zero = 0
+  hold_back M (suc zero) = 0
+  hold_back M (suc (suc m)) = delay M - p.centre * (2 ^ (M + 1 - suc (suc m)) - 1)
 
   -- rule 3.8: band m, held back
-  abbrev pub heldBack : ℕ → (ℕ → Signal) → ℕ → Signal
-  heldBack M lines m n = back (band M lines m) n (holdBack M m)
+  abbrev pub held_back : ℕ → (ℕ → Signal) → ℕ → Signal
+  held_back M lines m n = back (band M lines m) n (hold_back M m)
 
   -- rule 3.9: Σ over m = 1..M of gain·(held-back band)
-  unfoldable pub gainSum : ℕ → (ℕ → ℕ → ℤ) → (ℕ → Signal) → Signal
-  gainSum M g lines n = sum M (λ i. g n (suc i) *ℤ heldBack M lines (suc i) n)
+  unfoldable pub gain_sum : ℕ → (ℕ → ℕ → ℤ) → (ℕ → Signal) → Signal
+  gain_sum M g lines n = sum M (λ i. g n (suc i) *ℤ held_back M lines (suc i) n)
 
   -- rule 3.11: over unity, rounded once, limited
   unfoldable pub output : ℕ → (ℕ → ℕ → ℤ) → Signal → Signal
-  output M g x n = limit leastSample mostSample (nearest unity (gainSum M g (line M x) n))
+  output M g x n = limit least_sample most_sample (nearest unity (gain_sum M g (line M x) n))

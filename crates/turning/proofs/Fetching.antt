@@ -11,7 +11,7 @@ use lib.ListN.{length, get_or, take, drop, length-append, length-take, length-dr
 use lib.Seq.{take_all, take_at, take-append-add, take-append-le, length-take-le}
 use Rattle.fields.specs.Bytes as fields
 use Rattle.blocks.specs.declared.block.Equalised.TheVariants.{Bytes}
-use Rattle.eqfile.specs.Front.{carryOf}
+use Rattle.eqfile.specs.Front.{carry_of}
 use Rattle.runs.specs.Program.{Fetched}
 use Rattle.fields.proofs.Numbers.{bytes_take}
 
@@ -23,34 +23,34 @@ take-least n m l e = by (dec_lt m (length l))
     by (no h) = take_all n l (omega arith) ∙ sym (take_all m l (omega arith))
 
 -- what was carried from the front, and what then came in behind it
-module _ (front bytes : List ℕ) (from had : ℕ) (held : List ℕ) (e : (had, held) ≡ carryOf front from bytes) where
-  had-is : had ≡ min (length (drop from front)) (length bytes)
-  unfolding carryOf
-  had-is = ap (λ (x : ℕ × List ℕ). x.0) e ∙ ap (λ (k : ℕ). min k (length bytes)) (sym (length-drop from front))
+module _ (front bytes : List ℕ) (from had : ℕ) (held : List ℕ) (e : (had, held) ≡ carry_of front from bytes) where
+  had_is : had ≡ min (length (drop from front)) (length bytes)
+  unfolding carry_of
+  had_is = ap (λ (x : ℕ × List ℕ). x.0) e ∙ ap (λ (k : ℕ). min k (length bytes)) (sym (length-drop from front))
 
-  held-is : held ≡ take had (drop from front) ++ drop had bytes
-  unfolding carryOf
-  held-is = ap (λ (x : ℕ × List ℕ). x.1) e ∙ ap (λ (k : ℕ). take k (drop from front) ++ drop k bytes) (sym (ap (λ (x : ℕ × List ℕ). x.0) e))
+  held_is : held ≡ take had (drop from front) ++ drop had bytes
+  unfolding carry_of
+  held_is = ap (λ (x : ℕ × List ℕ). x.1) e ∙ ap (λ (k : ℕ). take k (drop from front) ++ drop k bytes) (sym (ap (λ (x : ℕ × List ℕ). x.0) e))
 
-  carried-long : length (take had (drop from front)) ≡ had
-  carried-long = length-take-le had (drop from front) (omega (arith, had-is))
+  carried_long : length (take had (drop from front)) ≡ had
+  carried_long = length-take-le had (drop from front) (omega (arith, had_is))
 
-  held-long : length held ≡ length bytes
-  held-long = ap length held-is ∙ length-append (take had (drop from front)) (drop had bytes) ∙ omega (arith, carried-long, length-drop had bytes, had-is)
+  held_long : length held ≡ length bytes
+  held_long = ap length held_is ∙ length-append (take had (drop from front)) (drop had bytes) ∙ omega (arith, carried_long, length-drop had bytes, had_is)
 
   pub carried-within : had ≤ length held
-  carried-within = omega (arith, held-long, had-is)
+  carried-within = omega (arith, held_long, had_is)
 
-  pub came-in : (got : ℕ) (new : List ℕ) → got ≤ length new → length new ≡ length (take (length held - had) (drop had held)) →
+  pub came_in : (got : ℕ) (new : List ℕ) → got ≤ length new → length new ≡ length (take (length held - had) (drop had held)) →
       ((i : ℕ) → Fits w8 (get_or (put_mid had (length held - had) held new) i 0)) →
       let piece = take (had + got) (put_mid had (length held - had) held new) in Fetched front from (length bytes) piece × ((had + got ≤ length bytes) × fields.Bytes piece)
-  came-in got new g l each =
+  came_in got new g l each =
       let rest = drop (length held - had) (drop had held) in
       let whole = put_mid had (length held - had) held new in
-      let first : take had held ≡ take had (drop from front) = ap (take had) held-is ∙ take_at (take had (drop from front)) (drop had bytes) had carried-long in
-      let long : length (take had held) ≡ had = ap length first ∙ carried-long in
-      let most : had + got ≤ length bytes = omega (arith, held-long, carried-within, length-take (length held - had) (drop had held), length-drop had held) in
+      let first : take had held ≡ take had (drop from front) = ap (take had) held_is ∙ take_at (take had (drop from front)) (drop had bytes) had carried_long in
+      let long : length (take had held) ≡ had = ap length first ∙ carried_long in
+      let most : had + got ≤ length bytes = omega (arith, held_long, carried-within, length-take (length held - had) (drop had held), length-drop had held) in
       let is : take (had + got) whole ≡ take (length bytes) (drop from front) ++ take got new =
       ap (λ (k : ℕ). take (k + got) whole) (sym long) ∙ take-append-add (take had held) (new ++ rest) got ∙
-      ap₂ ◌++◌ (first ∙ take-least had (length bytes) (drop from front) had-is) (take-append-le got new rest g) in
+      ap₂ ◌++◌ (first ∙ take-least had (length bytes) (drop from front) had_is) (take-append-le got new rest g) in
       (record { more = take got new; is = is; most = omega (arith, length-take (had + got) whole) }, (most, bytes_take (had + got) whole (λ i. omega (arith, each i))))

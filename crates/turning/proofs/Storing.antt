@@ -9,30 +9,30 @@ use lib.ListN.{length, take, drop, replicate, length-append, length-take, length
 use lib.Seq.{take_at, length-take-le}
 use lib.IntN.{ℤ}
 use Rattle.answers.specs.Checks.{Outcome, Done}
-use Rattle.answers.specs.Unit.{turnRoom}
+use Rattle.answers.specs.Unit.{turn_room}
 use Rattle.samples.specs.Channels.{count_of}
 use Rattle.blocks.specs.declared.block.Equalised.{Equalised}
 use Rattle.blocks.specs.declared.block.Equalised.TheVariants.{Bytes, Refused}
 use Rattle.eqfile.specs.declared.turn.Turn.{Turn}
-use Rattle.eqfile.specs.Data.{samplesFrom, numbersFrom, takenFrom}
-use Rattle.blocks.specs.Equalise.{equaliseOf}
+use Rattle.eqfile.specs.Data.{samples_from, numbers_from, taken_from}
+use Rattle.blocks.specs.Equalise.{equalise_of}
 use borrow.Author.Tests.{not-true, not-false}
 use Rattle.eqfile.proofs.Turns.{Bounds, bounds}
-use Rattle.eqfile.proofs.WholeSamples.{taken-answer, taken-samples}
-use Rattle.runs.specs.Program.{State, Arrives, turnAt, turnNumbers, Follows, blockDone}
+use Rattle.eqfile.proofs.WholeSamples.{taken_answer_lem, taken-samples}
+use Rattle.runs.specs.Program.{State, Arrives, turn_at, turn_numbers, Follows, block_done}
 use Rattle.runs.proofs.SamplesInPieces.{length_from}
-use Rattle.runs.proofs.Program.{block-accepted}
+use Rattle.runs.proofs.Program.{block_accepted}
 use Rattle.turning.specs.declared.place.Job.{Job}
 use Rattle.turning.specs.declared.place.Place.{Place}
-use Rattle.turning.specs.Running.{stateAt, Arrived, Came, Stopped, Due}
+use Rattle.turning.specs.Running.{state_at, Arrived, Came, Stopped, Due}
 
 cut : {A : Type 0} (n m : ℕ) (x : A) → n ≤ m → take n (replicate m x) ≡ replicate n x
 cut zero m x h = refl
 cut (suc n) zero x h = absurd (omega arith)
 cut {A} (suc n) (suc m) x h = ap (λ (l : List A). x ∷ l) (cut n m x (omega arith))
 
-equalised-same : (memory gains : List ℤ) {xs ys : List ℤ} {k j : ℕ} {s t : List ℕ} → xs ≡ ys → k ≡ j → s ≡ t → equaliseOf memory gains xs k s ≡ equaliseOf memory gains ys j t
-equalised-same memory gains e f g = λ i. equaliseOf memory gains (e i) (f i) (g i)
+equalised-same : (memory gains : List ℤ) {xs ys : List ℤ} {k j : ℕ} {s t : List ℕ} → xs ≡ ys → k ≡ j → s ≡ t → equalise_of memory gains xs k s ≡ equalise_of memory gains ys j t
+equalised-same memory gains e f g = λ i. equalise_of memory gains (e i) (f i) (g i)
 
 module _ {job : Job} {gains : List ℤ} {front : List ℕ} {place : Place} {memory : List ℤ} {turn : Turn} {piece : List ℕ} (arrived : Arrived job gains front place memory turn piece) where
   pub planned : Bounds (count_of job.channels) job.frames place.at turn
@@ -40,30 +40,30 @@ module _ {job : Job} {gains : List ℤ} {front : List ℕ} {place : Place} {memo
 
   -- the frames as samples, n channels of them
   module _ {n : ℕ} (sides : n ≡ count_of job.channels) where
-    pub samples-few : n * turn.fed ≤ turnRoom
-    samples-few = rw sides planned.fed-most
+    pub samples_few : n * turn.fed ≤ turn_room
+    samples_few = rw sides planned.fed_most
 
-    pub skipped-few : n * turn.skipped ≤ turnRoom
-    skipped-few = let l : n * turn.skipped ≤ n * turn.fed = mul-le-mul_left n planned.skipped-most in omega (arith, samples-few)
+    pub skipped_few : n * turn.skipped ≤ turn_room
+    skipped_few = let l : n * turn.skipped ≤ n * turn.fed = mul-le-mul_left n planned.skipped_most in omega (arith, samples_few)
 
     -- the code's samples, and whether all are numbers
-    module _ (input₀ : List ℤ) (room : turnRoom ≡ length input₀) where
-      pub input-long : length (take (n * turn.fed) input₀) ≡ n * turn.fed
-      input-long = length-take-le (n * turn.fed) input₀ (omega (arith, samples-few))
+    module _ (input₀ : List ℤ) (room : turn_room ≡ length input₀) where
+      pub input_long : length (take (n * turn.fed) input₀) ≡ n * turn.fed
+      input_long = length-take-le (n * turn.fed) input₀ (omega (arith, samples_few))
 
-      module _ {r : Bool} {xs : List ℤ} (d : Done (takenFrom piece job.format (take (n * turn.fed) input₀)) r xs) where
-        numbers-are : r ≡ turnNumbers job.format job.channels job.frames (stateAt place memory) piece
-        numbers-are =
-            taken-answer piece job.format (take (n * turn.fed) input₀) r xs d ∙ ap (λ (k : ℕ). numbersFrom k job.format piece) input-long ∙
-            (λ i. numbersFrom (sides i * (arrived.turn_is i).fed) job.format piece)
+      module _ {r : Bool} {xs : List ℤ} (d : Done (taken_from piece job.format (take (n * turn.fed) input₀)) r xs) where
+        numbers_are : r ≡ turn_numbers job.format job.channels job.frames (state_at place memory) piece
+        numbers_are =
+            taken_answer_lem piece job.format (take (n * turn.fed) input₀) r xs d ∙ ap (λ (k : ℕ). numbers_from k job.format piece) input_long ∙
+            (λ i. numbers_from (sides i * (arrived.turn_is i).fed) job.format piece)
 
         pub stopped : not r ≡ true → Stopped job gains front
-        stopped e = record { place = place; memory = memory; turn = turn; piece = piece; arrived = arrived; bad = sym numbers-are ∙ not-true r e }
+        stopped e = record { place = place; memory = memory; turn = turn; piece = piece; arrived = arrived; bad = sym numbers_are ∙ not-true r e }
 
         pub came : not r ≡ false → Came job gains front place memory turn piece
-        came e = record { arrived = arrived; numbers = sym numbers-are ∙ not-false r e }
+        came e = record { arrived = arrived; numbers = sym numbers_are ∙ not-false r e }
 
-        pub sampled : not r ≡ false → xs ≡ samplesFrom (length (take (n * turn.fed) input₀)) job.format piece
+        pub sampled : not r ≡ false → xs ≡ samples_from (length (take (n * turn.fed) input₀)) job.format piece
         sampled e = taken-samples piece job.format (take (n * turn.fed) input₀) r xs d (not-false r e)
 
 module _ {job : Job} {gains : List ℤ} {front : List ℕ} {place : Place} {memory : List ℤ} {turn : Turn} {piece : List ℕ} (came : Came job gains front place memory turn piece) where
@@ -71,51 +71,51 @@ module _ {job : Job} {gains : List ℤ} {front : List ℕ} {place : Place} {memo
   here = came.arrived
 
   -- no block of a run is refused
-  taken-block : (blockDone gains job.format job.channels job.frames (stateAt place memory) piece).result ≡ Bytes turn.written
-  taken-block =
+  taken_block : (block_done gains job.format job.channels job.frames (state_at place memory) piece).result ≡ Bytes turn.written
+  taken_block =
       let r = here.running in
-      let f : Follows job.format job.channels job.frames (stateAt place memory) piece =
+      let f : Follows job.format job.channels job.frames (state_at place memory) piece =
       record { arrives = subst (λ (t : Turn). Arrives t piece) here.turn_is here.arrives; numbers = came.numbers } in
       subst (λ (s : State). Follows job.format job.channels job.frames s piece →
-      (blockDone gains job.format job.channels job.frames s piece).result ≡ Bytes (turnAt job.format job.channels job.frames s).written) (sym r.stands)
-      (block-accepted r.started.texts gains r.started.taken job.format job.channels job.frames r.pieces r.followed piece) f ∙
+      (block_done gains job.format job.channels job.frames s piece).result ≡ Bytes (turn_at job.format job.channels job.frames s).written) (sym r.stands)
+      (block_accepted r.started.texts gains r.started.taken job.format job.channels job.frames r.pieces r.followed piece) f ∙
       ap (λ (t : Turn). Bytes t.written) (sym here.turn_is)
 
   -- what the code hands to `equalise`, and what it answers
-  module _ {n : ℕ} (sides : n ≡ count_of job.channels) (input₀ : List ℤ) {xs : List ℤ} {bytes₀ : List ℕ} (room : turnRoom ≡ length input₀)
-      (cleared : bytes₀ ≡ replicate (4 * turnRoom) 0) (sampled : xs ≡ samplesFrom (length (take (n * turn.fed) input₀)) job.format piece) where
-    xs-long : length xs ≡ n * turn.fed
-    xs-long = ap length sampled ∙ length_from (length (take (n * turn.fed) input₀)) job.format piece ∙ input-long here sides input₀ room
+  module _ {n : ℕ} (sides : n ≡ count_of job.channels) (input₀ : List ℤ) {xs : List ℤ} {bytes₀ : List ℕ} (room : turn_room ≡ length input₀)
+      (cleared : bytes₀ ≡ replicate (4 * turn_room) 0) (sampled : xs ≡ samples_from (length (take (n * turn.fed) input₀)) job.format piece) where
+    xs_long : length xs ≡ n * turn.fed
+    xs_long = ap length sampled ∙ length_from (length (take (n * turn.fed) input₀)) job.format piece ∙ input_long here sides input₀ room
 
-    pub samples-there : n * turn.fed ≤ length (xs ++ drop (n * turn.fed) input₀)
-    samples-there = omega (arith, length-append xs (drop (n * turn.fed) input₀), xs-long)
+    pub samples_there : n * turn.fed ≤ length (xs ++ drop (n * turn.fed) input₀)
+    samples_there = omega (arith, length-append xs (drop (n * turn.fed) input₀), xs_long)
 
-    pub bytes-there : turn.written ≤ length bytes₀
-    bytes-there =
-        let long : length bytes₀ ≡ 4 * turnRoom = ap length cleared ∙ length-replicate {A = ℕ} (4 * turnRoom) 0 in
-        omega (arith, (planned here).written-most)
+    pub bytes_there : turn.written ≤ length bytes₀
+    bytes_there =
+        let long : length bytes₀ ≡ 4 * turn_room = ap length cleared ∙ length-replicate {A = ℕ} (4 * turn_room) 0 in
+        omega (arith, (planned here).written_most)
 
     module _ {r : Equalised} {m : List ℤ} {s : List ℕ}
-        (d : Done (equaliseOf memory gains (take (n * turn.fed) (xs ++ drop (n * turn.fed) input₀)) (n * turn.skipped) (take turn.written bytes₀)) r (m, s)) where
-      is : equaliseOf memory gains (take (n * turn.fed) (xs ++ drop (n * turn.fed) input₀)) (n * turn.skipped) (take turn.written bytes₀) ≡
-          blockDone gains job.format job.channels job.frames (stateAt place memory) piece
+        (d : Done (equalise_of memory gains (take (n * turn.fed) (xs ++ drop (n * turn.fed) input₀)) (n * turn.skipped) (take turn.written bytes₀)) r (m, s)) where
+      is : equalise_of memory gains (take (n * turn.fed) (xs ++ drop (n * turn.fed) input₀)) (n * turn.skipped) (take turn.written bytes₀) ≡
+          block_done gains job.format job.channels job.frames (state_at place memory) piece
       is =
           equalised-same memory gains
-          (take_at xs (drop (n * turn.fed) input₀) (n * turn.fed) xs-long ∙ sampled ∙ ap (λ (k : ℕ). samplesFrom k job.format piece) (input-long here sides input₀ room))
+          (take_at xs (drop (n * turn.fed) input₀) (n * turn.fed) xs_long ∙ sampled ∙ ap (λ (k : ℕ). samples_from k job.format piece) (input_long here sides input₀ room))
           refl
-          (ap (take turn.written) cleared ∙ cut turn.written (4 * turnRoom) 0 (omega (arith, (planned here).written-most))) ∙
+          (ap (take turn.written) cleared ∙ cut turn.written (4 * turn_room) 0 (omega (arith, (planned here).written_most))) ∙
           (λ i.
           let t = here.turn_is i in
-          equaliseOf memory gains (samplesFrom (sides i * t.fed) job.format piece) (sides i * t.skipped) (replicate t.written 0))
+          equalise_of memory gains (samples_from (sides i * t.fed) job.format piece) (sides i * t.skipped) (replicate t.written 0))
 
-      answer-is : r ≡ Bytes turn.written
-      answer-is = d.result-is ∙ ap (λ (o : Outcome Equalised (List ℤ × List ℕ)). o.result) is ∙ taken-block
+      answer_is : r ≡ Bytes turn.written
+      answer_is = d.result_is ∙ ap (λ (o : Outcome Equalised (List ℤ × List ℕ)). o.result) is ∙ taken_block
 
-      pub memory-is : m ≡ (blockDone gains job.format job.channels job.frames (stateAt place memory) piece).lent.0
-      memory-is = ap (λ (x : List ℤ × List ℕ). x.0) (d.lent_is ∙ ap (λ (o : Outcome Equalised (List ℤ × List ℕ)). o.lent) is)
+      pub memory_is : m ≡ (block_done gains job.format job.channels job.frames (state_at place memory) piece).lent.0
+      memory_is = ap (λ (x : List ℤ × List ℕ). x.0) (d.lent_is ∙ ap (λ (o : Outcome Equalised (List ℤ × List ℕ)). o.lent) is)
 
-      pub not-refused : r ≡ Refused → ⊥
-      not-refused e = let z : Bytes turn.written ≡ Refused = sym answer-is ∙ e in clash z
+      pub not_refused : r ≡ Refused → ⊥
+      not_refused e = let z : Bytes turn.written ≡ Refused = sym answer_is ∙ e in clash z
         where
           clash : Bytes turn.written ≡ Refused → ⊥
           clash z = let y : ◌≡◌ {A = ℕ} 0 1 = cc in omega arith
@@ -123,11 +123,11 @@ module _ {job : Job} {gains : List ℤ} {front : List ℕ} {place : Place} {memo
       -- all bytes stored are handed over
       module _ {k : ℕ} (e : r ≡ Bytes k) (l : length s ≡ length (take turn.written bytes₀)) where
         long : length s ≡ k
-        long = l ∙ length-take-le turn.written bytes₀ bytes-there ∙ ap countIn (sym answer-is ∙ e)
+        long = l ∙ length-take-le turn.written bytes₀ bytes_there ∙ ap count_in (sym answer_is ∙ e)
           where
-            countIn : Equalised → ℕ
-            countIn (Bytes j) = j
-            countIn Refused = 0
+            count_in : Equalised → ℕ
+            count_in (Bytes j) = j
+            count_in Refused = 0
 
         pub stored_there : k ≤ length (s ++ drop turn.written bytes₀)
         stored_there = omega (arith, long, length-append s (drop turn.written bytes₀))

@@ -9,95 +9,95 @@ use lib.Seq.{take-take}
 use lib.Dec.{eqb}
 use borrow.Author.Tests.{eqb-true, le-leb}
 use Rattle.answers.specs.Answer.{Answer, accepted, refused}
-use Rattle.answers.specs.Unit.{frontLength}
+use Rattle.answers.specs.Unit.{front_length}
 use Rattle.fields.specs.Bytes.{lowest, same}
 use Rattle.fields.proofs.ByTest.{by-test, cond-case}
-use Rattle.fields.proofs.Naming.{same-is}
-use Rattle.chunks.specs.Walk.{headerLength, sizeIn, named, ends, visit}
-use Rattle.chunks.proofs.Alike.{Alike, alike, alike-drop, field_alike, name-alike}
-use Rattle.chunks.proofs.Walks.{visit-whole}
-use Rattle.chunks.proofs.Deciding.{OwnChunk, Comes, comes-further, decides}
+use Rattle.fields.proofs.Naming.{same_is}
+use Rattle.chunks.specs.Walk.{header_length, size_in, named, ends, visit}
+use Rattle.chunks.proofs.Alike.{Alike, alike, alike_drop, field_alike, name_alike}
+use Rattle.chunks.proofs.Walks.{visit_whole}
+use Rattle.chunks.proofs.Deciding.{OwnChunk, Comes, comes_further, decides}
 use Rattle.wave.specs.Names.{riff, wave, fmt, data'}
-use Rattle.wave_values.specs.Values.{longFmtLength, knownLength}
-use Rattle.wave.specs.Walk.{Found, Seen, nothing, extraIn, values, fmtChunk, dataChunk, chunk, find, findOf, wholeFrames, read_of}
-use Rattle.wave.proofs.Chunks.{known-long}
-use Rattle.wave.proofs.Answers.{accepted-means}
+use Rattle.wave_values.specs.Values.{long_fmt_length, known_length}
+use Rattle.wave.specs.Walk.{Found, Seen, nothing, extra_in, values, fmt_chunk, data_chunk, chunk, find, find_of, whole_frames, read_of}
+use Rattle.wave.proofs.Chunks.{known_long}
+use Rattle.wave.proofs.Answers.{accepted_means}
 
 -- ---- a chunk is judged by itself
 
 -- the contents of a `fmt ` matter, and of another chunk the header alone
 abbrev reach : List ℕ → ℕ
-reach rest = cond (named rest fmt) (headerLength + sizeIn lowest rest) headerLength
+reach rest = cond (named rest fmt) (header_length + size_in lowest rest) header_length
 
 module _ (r q : List ℕ) where
-  extra-alike : Alike (headerLength + sizeIn lowest r) r q → extraIn r ≡ extraIn q
-  unfolding extraIn
-  extra-alike a =
-      let m = headerLength + sizeIn lowest r in
+  extra_alike : Alike (header_length + size_in lowest r) r q → extra_in r ≡ extra_in q
+  unfolding extra_in
+  extra_alike a =
+      let m = header_length + size_in lowest r in
       let size = field_alike m r q a lowest 4 4 (omega arith) in
-      by-test (eqb (sizeIn lowest r) longFmtLength)
-      (λ t. ap₂ (λ (n x : ℕ). cond (eqb n longFmtLength) x 0) size (field_alike m r q a lowest 24 2 (omega (arith, eqb-true (sizeIn lowest r) longFmtLength t))))
+      by-test (eqb (size_in lowest r) long_fmt_length)
+      (λ t. ap₂ (λ (n x : ℕ). cond (eqb n long_fmt_length) x 0) size (field_alike m r q a lowest 24 2 (omega (arith, eqb-true (size_in lowest r) long_fmt_length t))))
       (λ t. rw (sym size, t))
 
-  fmt-alike : (seen : Seen) → Alike (headerLength + sizeIn lowest r) r q → fmtChunk r seen ≡ fmtChunk q seen
-  unfolding fmtChunk values
-  fmt-alike seen a =
-      let m = headerLength + sizeIn lowest r in
+  fmt_alike : (seen : Seen) → Alike (header_length + size_in lowest r) r q → fmt_chunk r seen ≡ fmt_chunk q seen
+  unfolding fmt_chunk values
+  fmt_alike seen a =
+      let m = header_length + size_in lowest r in
       let size = field_alike m r q a lowest 4 4 (omega arith) in
-      by-test (knownLength (sizeIn lowest r))
-      (λ t. let long = known-long (sizeIn lowest r) t in
+      by-test (known_length (size_in lowest r))
+      (λ t. let long = known_long (size_in lowest r) t in
       let at = field_alike m r q a lowest in
       rw (
         size,
-        extra-alike a,
+        extra_alike a,
         at 8 2 (omega arith),
         at 10 2 (omega arith),
         at 12 4 (omega arith),
         at 16 4 (omega arith),
         at 20 2 (omega arith),
         at 22 2 (omega arith),
-        le-leb (headerLength + sizeIn lowest q) (length r) (omega (arith, a.long, size)),
-        le-leb (headerLength + sizeIn lowest q) (length q) (omega (arith, a.long', size)),
+        le-leb (header_length + size_in lowest q) (length r) (omega (arith, a.long, size)),
+        le-leb (header_length + size_in lowest q) (length q) (omega (arith, a.long', size)),
       ))
       (λ t. rw (sym size, t))
 
-  chunk-alike : (m at : ℕ) (seen : Seen) → headerLength ≤ m → (named r fmt ≡ true → m ≡ headerLength + sizeIn lowest r) → Alike m r q →
+  chunk_alike : (m at : ℕ) (seen : Seen) → header_length ≤ m → (named r fmt ≡ true → m ≡ header_length + size_in lowest r) → Alike m r q →
       chunk r at seen ≡ chunk q at seen
   unfolding chunk
-  chunk-alike m at seen l all a =
-      let is-fmt = name-alike m r q a fmt (omega arith) in
+  chunk_alike m at seen l all a =
+      let is-fmt = name_alike m r q a fmt (omega arith) in
       by-test (named r fmt)
-      (λ t. rw (sym is-fmt ∙ t, t) (fmt-alike seen (subst (λ (k : ℕ). Alike k r q) (all t) a)))
-      (λ t. rw (sym is-fmt ∙ t, t, name-alike m r q a data' (omega arith), field_alike m r q a lowest 4 4 (omega arith)))
+      (λ t. rw (sym is-fmt ∙ t, t) (fmt_alike seen (subst (λ (k : ℕ). Alike k r q) (all t) a)))
+      (λ t. rw (sym is-fmt ∙ t, t, name_alike m r q a data' (omega arith), field_alike m r q a lowest 4 4 (omega arith)))
 
 own : OwnChunk lowest (refused 24 0) chunk reach
 own =
     record {
-      header = λ rest. cond-case (λ (n : ℕ). headerLength ≤ n) (headerLength + sizeIn lowest rest) headerLength (named rest fmt) (λ _. omega arith) (λ _. omega arith);
+      header = λ rest. cond-case (λ (n : ℕ). header_length ≤ n) (header_length + size_in lowest rest) header_length (named rest fmt) (λ _. omega arith) (λ _. omega arith);
       contents = λ rest.
-          cond-case (λ (n : ℕ). n ≤ headerLength + sizeIn lowest rest) (headerLength + sizeIn lowest rest) headerLength (named rest fmt) (λ _. omega arith) (λ _. omega arith);
+          cond-case (λ (n : ℕ). n ≤ header_length + size_in lowest rest) (header_length + size_in lowest rest) header_length (named rest fmt) (λ _. omega arith) (λ _. omega arith);
       looks = λ r q at seen a.
-          chunk-alike r q (reach r) at seen
-          (cond-case (λ (n : ℕ). headerLength ≤ n) (headerLength + sizeIn lowest r) headerLength (named r fmt) (λ _. omega arith) (λ _. omega arith))
+          chunk_alike r q (reach r) at seen
+          (cond-case (λ (n : ℕ). header_length ≤ n) (header_length + size_in lowest r) header_length (named r fmt) (λ _. omega arith) (λ _. omega arith))
           (λ t. rw t) a;
     }
 
 -- ---- the deciding chunk
 
 -- two fronts that agree up to what the deciding chunk looks at have the same answer
-find-decides : (a b : List ℕ) (d : ℕ) (last : Seen) (answer : Answer Found) → Comes lowest (refused 24 0) chunk a 12 nothing d last →
+find_decides : (a b : List ℕ) (d : ℕ) (last : Seen) (answer : Answer Found) → Comes lowest (refused 24 0) chunk a 12 nothing d last →
     visit lowest (refused 24 0) chunk (drop d a) d last ≡ ends answer → Alike (d + reach (drop d a)) a b → find a ≡ find b
 unfolding find
-find-decides a b d last answer c e al =
+find_decides a b d last answer c e al =
     let m = d + reach (drop d a) in
-    let far = comes-further lowest (refused 24 0) chunk a 12 d nothing last c in
+    let far = comes_further lowest (refused 24 0) chunk a 12 d nothing last c in
     let self : Alike m a a = record { bytes = refl; long = al.long; long' = al.long } in
-    let rests = alike-drop m a b al 8 4 (omega arith) in
+    let rests = alike_drop m a b al 8 4 (omega arith) in
     rw (
       decides lowest (refused 24 0) chunk reach own a a 12 d nothing last answer c e self,
       decides lowest (refused 24 0) chunk reach own a b 12 d nothing last answer c e al,
-      name-alike m a b al riff (omega arith),
-      name-alike 4 (drop 8 a) (drop 8 b) rests wave (omega arith),
+      name_alike m a b al riff (omega arith),
+      name_alike 4 (drop 8 a) (drop 8 b) rests wave (omega arith),
       le-leb 12 (length a) (omega (arith, al.long)),
       le-leb 12 (length b) (omega (arith, al.long')),
     )
@@ -106,39 +106,39 @@ find-decides a b d last answer c e al =
 
 -- a `data` header stands wholly at a place
 pub record AtData (front : List ℕ) (d : ℕ) : Type 0 where
-  pub whole : d + headerLength ≤ length front
-  pub is-data : named (drop d front) data' ≡ true
+  pub whole : d + header_length ≤ length front
+  pub is_data : named (drop d front) data' ≡ true
 
-not-fmt : (s : List ℕ) → same s data' ≡ true → same s fmt ≡ false
+not_fmt : (s : List ℕ) → same s data' ≡ true → same s fmt ≡ false
 unfolding same
-not-fmt s h = ap (λ (l : List ℕ). same l fmt) (same-is s data' h)
+not_fmt s h = ap (λ (l : List ℕ). same l fmt) (same_is s data' h)
 
-data-ends : (rest : List ℕ) (at : ℕ) (seen : Seen) → headerLength ≤ length rest → named rest data' ≡ true →
-    visit lowest (refused 24 0) chunk rest at seen ≡ ends (dataChunk (sizeIn lowest rest) at seen)
+data_ends : (rest : List ℕ) (at : ℕ) (seen : Seen) → header_length ≤ length rest → named rest data' ≡ true →
+    visit lowest (refused 24 0) chunk rest at seen ≡ ends (data_chunk (size_in lowest rest) at seen)
 unfolding chunk
-data-ends rest at seen l h = visit-whole lowest (refused 24 0) chunk rest at seen l ∙ rw (not-fmt (take 4 rest) h, h)
+data_ends rest at seen l h = visit_whole lowest (refused 24 0) chunk rest at seen l ∙ rw (not_fmt (take 4 rest) h, h)
 
 -- once the walk comes to a `data` header, two files that agree up to the header's end get the same answer
-pub data-decides : (s t : List ℕ) (d : ℕ) (last : Seen) → Comes lowest (refused 24 0) chunk (take frontLength s) 12 nothing d last →
-    AtData (take frontLength s) d → take (d + headerLength) s ≡ take (d + headerLength) t → read_of s ≡ read_of t
-unfolding read_of findOf
-data-decides s t d last c here e =
-    let a = take frontLength s in
+pub data_decides : (s t : List ℕ) (d : ℕ) (last : Seen) → Comes lowest (refused 24 0) chunk (take front_length s) 12 nothing d last →
+    AtData (take front_length s) d → take (d + header_length) s ≡ take (d + header_length) t → read_of s ≡ read_of t
+unfolding read_of find_of
+data_decides s t d last c here e =
+    let a = take front_length s in
     let rest = drop d a in
-    let short = length-take frontLength s in
-    let in-front : d + headerLength ≤ frontLength = omega (arith, here.whole, short) in
-    let reach-is : reach rest ≡ headerLength = rw (not-fmt (take 4 rest) here.is-data) in
-    let al : Alike (d + headerLength) a (take frontLength t) =
-    alike (d + headerLength) a (take frontLength t) here.whole
-    (take-take (d + headerLength) frontLength s in-front ∙ e ∙ sym (take-take (d + headerLength) frontLength t in-front)) in
-    ap wholeFrames (find-decides a (take frontLength t) d last (dataChunk (sizeIn lowest rest) d last) c
-    (data-ends rest d last (omega (arith, here.whole, length-drop d a)) here.is-data)
-    (subst (λ (k : ℕ). Alike (d + k) a (take frontLength t)) (sym reach-is) al))
+    let short = length-take front_length s in
+    let in-front : d + header_length ≤ front_length = omega (arith, here.whole, short) in
+    let reach-is : reach rest ≡ header_length = rw (not_fmt (take 4 rest) here.is_data) in
+    let al : Alike (d + header_length) a (take front_length t) =
+    alike (d + header_length) a (take front_length t) here.whole
+    (take-take (d + header_length) front_length s in-front ∙ e ∙ sym (take-take (d + header_length) front_length t in-front)) in
+    ap whole_frames (find_decides a (take front_length t) d last (data_chunk (size_in lowest rest) d last) c
+    (data_ends rest d last (omega (arith, here.whole, length-drop d a)) here.is_data)
+    (subst (λ (k : ℕ). Alike (d + k) a (take front_length t)) (sym reach-is) al))
 
 -- the bytes before the start decide an accepted file
-pub accepted-decides : (s t : List ℕ) (f : Found) → read_of s ≡ accepted f → take f.start s ≡ take f.start t → read_of t ≡ accepted f
-accepted-decides s t f e same_bytes =
-    let l = (accepted-means s f e).landed in
-    sym (data-decides s t l.place l.last l.comes (record { whole = l.whole; is-data = l.is-data })
+pub accepted_decides : (s t : List ℕ) (f : Found) → read_of s ≡ accepted f → take f.start s ≡ take f.start t → read_of t ≡ accepted f
+accepted_decides s t f e same_bytes =
+    let l = (accepted_means s f e).landed in
+    sym (data_decides s t l.place l.last l.comes (record { whole = l.whole; is_data = l.is_data })
     (ap (λ (k : ℕ). take k s) (sym l.start_is) ∙ same_bytes ∙ ap (λ (k : ℕ). take k t) l.start_is))
     ∙ e

@@ -11,15 +11,15 @@ use Rattle.fields.proofs.ByTest.{by-test}
 use Rattle.wave.specs.Private.{FormatThere}
 use Rattle.answers.specs.Answer.{Answer}
 use Rattle.fields.specs.Bytes.{lowest, field}
-use Rattle.chunks.specs.Walk.{headerLength, sizeIn, contained, Step, ends}
-use Rattle.wave_values.specs.Values.{fmtLength, longFmtLength, knownLength, codingOf, channelsOf}
-use Rattle.wave.specs.Walk.{Found, Seen, judged, extraIn, values, dataChunk}
+use Rattle.chunks.specs.Walk.{header_length, size_in, contained, Step, ends}
+use Rattle.wave_values.specs.Values.{fmt_length, long_fmt_length, known_length, coding_of, channels_of}
+use Rattle.wave.specs.Walk.{Found, Seen, judged, extra_in, values, data_chunk}
 use Rattle.wave_values.specs.declared.Coding.{Coding}
 use Rattle.wave_values.specs.declared.Sides.{Sides}
 
 -- the six values, as they were read
 pub values_of : (rest : List ℕ) (size extra tag bits count rate byteRate block : ℕ) (coding : Coding) (sides : Sides) (step : Step Seen (Answer Found)) →
-    size ≡ sizeIn lowest rest → extra ≡ extraIn rest → tag ≡ field lowest rest 8 2 → bits ≡ field lowest rest 22 2 → coding ≡ codingOf size extra tag bits → count ≡ field lowest rest 10 2 → sides ≡ channelsOf count →
+    size ≡ size_in lowest rest → extra ≡ extra_in rest → tag ≡ field lowest rest 8 2 → bits ≡ field lowest rest 22 2 → coding ≡ coding_of size extra tag bits → count ≡ field lowest rest 10 2 → sides ≡ channels_of count →
     rate ≡ field lowest rest 12 4 → byteRate ≡ field lowest rest 16 4 → block ≡ field lowest rest 20 2 →
     step ≡ judged coding sides rate byteRate block → step ≡ values rest
 unfolding values
@@ -27,39 +27,39 @@ values_of rest size extra tag bits count rate byteRate block coding sides step l
     rw (sym l, sym x, sym t, sym b, sym k, sym c, sym s, sym r, sym y, sym f) e
 
 -- a `fmt ` has sixteen bytes, or more
-pub known-long : (size : ℕ) → knownLength size ≡ true → fmtLength ≤ size
-unfolding knownLength
-known-long size h =
-    by-test (eqb size fmtLength) (λ t. omega (arith, eqb-true size fmtLength t))
-    (λ t. omega (arith, eqb-true size longFmtLength (subst (λ (b : Bool). (b || eqb size longFmtLength) ≡ true) t h)))
+pub known_long : (size : ℕ) → known_length size ≡ true → fmt_length ≤ size
+unfolding known_length
+known_long size h =
+    by-test (eqb size fmt_length) (λ t. omega (arith, eqb-true size fmt_length t))
+    (λ t. omega (arith, eqb-true size long_fmt_length (subst (λ (b : Bool). (b || eqb size long_fmt_length) ≡ true) t h)))
 
 -- what the code learnt of the length is true of the field
-module _ (rest : List ℕ) (size : ℕ) (k : Bool) (s : size ≡ sizeIn lowest rest) (e : k ≡ knownLength size) where
-  pub length-unknown : not k ≡ true → knownLength (sizeIn lowest rest) ≡ false
-  length-unknown n = ap knownLength (sym s) ∙ sym e ∙ not-true k n
+module _ (rest : List ℕ) (size : ℕ) (k : Bool) (s : size ≡ size_in lowest rest) (e : k ≡ known_length size) where
+  pub length_unknown : not k ≡ true → known_length (size_in lowest rest) ≡ false
+  length_unknown n = ap known_length (sym s) ∙ sym e ∙ not-true k n
 
-  pub length-known : not k ≡ false → knownLength (sizeIn lowest rest) ≡ true
-  length-known n = ap knownLength (sym s) ∙ sym e ∙ not-false k n
+  pub length_known : not k ≡ false → known_length (size_in lowest rest) ≡ true
+  length_known n = ap known_length (sym s) ∙ sym e ∙ not-false k n
 
 -- a `fmt ` of a known length that is all there has its values
-pub values-there : (rest : List ℕ) (r : Bool) → knownLength (sizeIn lowest rest) ≡ true → r ≡ contained lowest rest → not r ≡ false → FormatThere rest
-values-there rest r known is n =
+pub values_there : (rest : List ℕ) (r : Bool) → known_length (size_in lowest rest) ≡ true → r ≡ contained lowest rest → not r ≡ false → FormatThere rest
+values_there rest r known is n =
     record {
-      long = known-long (sizeIn lowest rest) known;
-      there = leb-true (headerLength + sizeIn lowest rest) (length rest) (sym is ∙ not-false r n);
+      long = known_long (size_in lowest rest) known;
+      there = leb-true (header_length + size_in lowest rest) (length rest) (sym is ∙ not-false r n);
     }
 
 -- the length that was read is not the longer one, or it is
-module _ (rest : List ℕ) (size : ℕ) (s : size ≡ sizeIn lowest rest) where
-  pub no_extra : (size ≡ longFmtLength → ⊥) → 0 ≡ extraIn rest
-  unfolding extraIn
-  no_extra n = rw (sym s) (rw (ne_eqb size longFmtLength n))
+module _ (rest : List ℕ) (size : ℕ) (s : size ≡ size_in lowest rest) where
+  pub no_extra : (size ≡ long_fmt_length → ⊥) → 0 ≡ extra_in rest
+  unfolding extra_in
+  no_extra n = rw (sym s) (rw (ne_eqb size long_fmt_length n))
 
-  pub some-extra : (extra : ℕ) → size ≡ longFmtLength → extra ≡ field lowest rest 24 2 → extra ≡ extraIn rest
-  unfolding extraIn
-  some-extra extra e x = rw (sym s) (rw (eq-eqb size longFmtLength e) x)
+  pub some_extra : (extra : ℕ) → size ≡ long_fmt_length → extra ≡ field lowest rest 24 2 → extra ≡ extra_in rest
+  unfolding extra_in
+  some_extra extra e x = rw (sym s) (rw (eq-eqb size long_fmt_length e) x)
 
 -- a length that was read stands for the field
-pub data_of : (rest : List ℕ) (at size : ℕ) (seen : Seen) (answer : Answer Found) → size ≡ sizeIn lowest rest →
-    answer ≡ dataChunk size at seen → ◌≡◌ {A = Step Seen (Answer Found)} (ends answer) (ends (dataChunk (sizeIn lowest rest) at seen))
-data_of rest at size seen answer s e = ap ends (e ∙ ap (λ (n : ℕ). dataChunk n at seen) s)
+pub data_of : (rest : List ℕ) (at size : ℕ) (seen : Seen) (answer : Answer Found) → size ≡ size_in lowest rest →
+    answer ≡ data_chunk size at seen → ◌≡◌ {A = Step Seen (Answer Found)} (ends answer) (ends (data_chunk (size_in lowest rest) at seen))
+data_of rest at size seen answer s e = ap ends (e ∙ ap (λ (n : ℕ). data_chunk n at seen) s)

@@ -4,8 +4,8 @@ use mathlib.Core.List.{List, [], ◌∷◌}
 use Prim.Native.Nat.{ℕ, ◌-◌}
 use lib.ListN.{get_or}
 use Rattle.answers.specs.Answer.{Answer, accepted, refused}
-use Rattle.answers.proofs.Laws.{one-case}
-use Rattle.wave.specs.Walk.{Found, number_of, findOf, read_of, findAnswer, readAnswer}
+use Rattle.answers.proofs.Laws.{one_case}
+use Rattle.wave.specs.Walk.{Found, number_of, find_of, read_of, find_answer, read_answer}
 use Rattle.wave.specs.declared.finder.Finding.{Finding}
 use Rattle.wave.specs.declared.finder.Finding.TheVariants as finding
 use Rattle.wave.specs.declared.reader.Reading.{Reading}
@@ -13,34 +13,34 @@ use Rattle.wave.specs.declared.reader.Reading.TheVariants as reading
 use Rattle.wave.specs.declared.refusal.Refusal.{Refusal}
 use Rattle.wave.specs.declared.refusal.Refusal.TheVariants as refusal
 
-abbrev pub refusal-back : ℕ → Refusal
-refusal-back n = get_or (refusal.NotWave ∷ refusal.NoFormat ∷ refusal.WrongFormat ∷ refusal.CutOff ∷ refusal.PartFrame ∷ []) (n - 21) refusal.NotWave
+abbrev pub refusal_back_lem : ℕ → Refusal
+refusal_back_lem n = get_or (refusal.NotWave ∷ refusal.NoFormat ∷ refusal.WrongFormat ∷ refusal.CutOff ∷ refusal.PartFrame ∷ []) (n - 21) refusal.NotWave
 
-refusal-way : (r : Refusal) → refusal-back (number_of r) ≡ r
-refusal-way refusal.NotWave = refl
-refusal-way refusal.NoFormat = refl
-refusal-way refusal.WrongFormat = refl
-refusal-way refusal.CutOff = refl
-refusal-way refusal.PartFrame = refl
+refusal_way : (r : Refusal) → refusal_back_lem (number_of r) ≡ r
+refusal_way refusal.NotWave = refl
+refusal_way refusal.NoFormat = refl
+refusal_way refusal.WrongFormat = refl
+refusal_way refusal.CutOff = refl
+refusal_way refusal.PartFrame = refl
 
-abbrev finding-back : Answer Found → Finding
-finding-back (accepted f) = finding.Data f.rate f.format f.channels f.size f.start
-finding-back (refused n place) = finding.Refused (refusal-back n)
+abbrev finding_back : Answer Found → Finding
+finding_back (accepted f) = finding.Data f.rate f.format f.channels f.size f.start
+finding_back (refused n place) = finding.Refused (refusal_back_lem n)
 
-finding-way : (r : Finding) → finding-back (findAnswer r) ≡ r
-finding-way (finding.Data rate format channels size start) = refl
-finding-way (finding.Refused r) = ap finding.Refused (refusal-way r)
+finding_way : (r : Finding) → finding_back (find_answer r) ≡ r
+finding_way (finding.Data rate format channels size start) = refl
+finding_way (finding.Refused r) = ap finding.Refused (refusal_way r)
 
-pub one-find : (front : List ℕ) {r q : Finding} → findAnswer r ≡ findOf front → findAnswer q ≡ findOf front → r ≡ q
-one-find front = one-case findAnswer finding-back finding-way
+pub one_find : (front : List ℕ) {r q : Finding} → find_answer r ≡ find_of front → find_answer q ≡ find_of front → r ≡ q
+one_find front = one_case find_answer finding_back finding_way
 
-abbrev reading-back : Answer Found → Reading
-reading-back (accepted f) = reading.Accepted f.rate f.format f.channels f.size f.start
-reading-back (refused n place) = reading.Refused (refusal-back n)
+abbrev reading_back : Answer Found → Reading
+reading_back (accepted f) = reading.Accepted f.rate f.format f.channels f.size f.start
+reading_back (refused n place) = reading.Refused (refusal_back_lem n)
 
-reading-way : (r : Reading) → reading-back (readAnswer r) ≡ r
-reading-way (reading.Accepted rate format channels size start) = refl
-reading-way (reading.Refused r) = ap reading.Refused (refusal-way r)
+reading_way : (r : Reading) → reading_back (read_answer r) ≡ r
+reading_way (reading.Accepted rate format channels size start) = refl
+reading_way (reading.Refused r) = ap reading.Refused (refusal_way r)
 
-pub one-read : (front : List ℕ) {r q : Reading} → readAnswer r ≡ read_of front → readAnswer q ≡ read_of front → r ≡ q
-one-read front = one-case readAnswer reading-back reading-way
+pub one_read : (front : List ℕ) {r q : Reading} → read_answer r ≡ read_of front → read_answer q ≡ read_of front → r ≡ q
+one_read front = one_case read_answer reading_back reading_way

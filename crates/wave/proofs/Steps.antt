@@ -8,13 +8,13 @@ use Rattle.answers.specs.Answer.{Answer, accepted, refused}
 use Rattle.answers.proofs.Laws.{and_left}
 use Rattle.fields.specs.Bytes.{lowest, field}
 use Rattle.fields.proofs.ByTest.{cond-case}
-use Rattle.chunks.specs.Walk.{headerLength, sizeIn, named, contained, Step, ends, on}
+use Rattle.chunks.specs.Walk.{header_length, size_in, named, contained, Step, ends, on}
 use Rattle.samples.specs.Channels.{count_of}
 use Rattle.samples.specs.declared.channels.Channels.{Channels}
 use Rattle.samples.specs.declared.format.Format.{Format}
 use Rattle.wave.specs.Names.{fmt, data'}
-use Rattle.wave_values.specs.Values.{knownLength, frameSize, codingOf, channelsOf, knownRate, right}
-use Rattle.wave.specs.Walk.{Found, Seen, nothing, sound, first, judged, extraIn, values, fmtChunk, dataChunk, chunk}
+use Rattle.wave_values.specs.Values.{known_length, frame_size, coding_of, channels_of, known_rate, right}
+use Rattle.wave.specs.Walk.{Found, Seen, nothing, sound, first, judged, extra_in, values, fmt_chunk, data_chunk, chunk}
 use Rattle.wave_values.specs.declared.Coding.{Coding}
 use Rattle.wave_values.specs.declared.Coding.TheVariants.{Known, Unknown}
 use Rattle.wave_values.specs.declared.Sides.{Sides}
@@ -23,51 +23,51 @@ use Rattle.wave_values.specs.declared.Sides.TheVariants.{OneOrTwo, OtherCount}
 -- a `fmt ` that was met has a known rate
 abbrev pub Good : Seen → Type 0
 Good nothing = Unit
-Good (sound rate format channels) = knownRate rate ≡ true
+Good (sound rate format channels) = known_rate rate ≡ true
 
 -- the samples that a `data` chunk at a place starts
 abbrev pub found_at : ℕ → Format → Channels → List ℕ → ℕ → Found
 found_at rate format channels rest at =
-    record { rate = rate; format = format; channels = channels; size = sizeIn lowest rest; start = at + headerLength }
+    record { rate = rate; format = format; channels = channels; size = size_in lowest rest; start = at + header_length }
 
 pub data Says (rest : List ℕ) (at : ℕ) (seen : Seen) : Step Seen (Answer Found) → Type 0 where
   goes : {met : Seen} → (Good seen → Good met) → Says rest at seen (on met)
   refuses : {n : ℕ} → 21 ≤ n → n ≤ 24 → Says rest at seen (ends (refused n 0))
-  lands : {rate : ℕ} {format : Format} {channels : Channels} → named rest data' ≡ true → (Good seen → knownRate rate ≡ true) →
+  lands : {rate : ℕ} {format : Format} {channels : Channels} → named rest data' ≡ true → (Good seen → known_rate rate ≡ true) →
       Says rest at seen (ends (accepted (found_at rate format channels rest at)))
 
-right-rate : (format : Format) (channels : Channels) (rate byteRate block : ℕ) → right format channels rate byteRate block ≡ true → knownRate rate ≡ true
+right_rate : (format : Format) (channels : Channels) (rate byteRate block : ℕ) → right format channels rate byteRate block ≡ true → known_rate rate ≡ true
 unfolding right
-right-rate format channels rate byteRate block h =
-    let size = frameSize (count_of channels) format in
-    and_left (knownRate rate) (eqb block size && eqb byteRate (rate * size)) h
+right_rate format channels rate byteRate block h =
+    let size = frame_size (count_of channels) format in
+    and_left (known_rate rate) (eqb block size && eqb byteRate (rate * size)) h
 
 module _ (rest : List ℕ) (at : ℕ) (seen : Seen) where
-  judged-says : (coding : Coding) (sides : Sides) (rate byteRate block : ℕ) → Says rest at seen (judged coding sides rate byteRate block)
+  judged_says : (coding : Coding) (sides : Sides) (rate byteRate block : ℕ) → Says rest at seen (judged coding sides rate byteRate block)
   unfolding judged
-  judged-says (Known format) (OneOrTwo channels) rate byteRate block =
+  judged_says (Known format) (OneOrTwo channels) rate byteRate block =
       cond-case (Says rest at seen) _ _ (right format channels rate byteRate block)
-      (λ h. goes (λ _. right-rate format channels rate byteRate block h)) (λ _. refuses (lit≤ tt) (lit≤ tt))
-  judged-says (Known format) OtherCount rate byteRate block = refuses (lit≤ tt) (lit≤ tt)
-  judged-says Unknown sides rate byteRate block = refuses (lit≤ tt) (lit≤ tt)
+      (λ h. goes (λ _. right_rate format channels rate byteRate block h)) (λ _. refuses (lit≤ tt) (lit≤ tt))
+  judged_says (Known format) OtherCount rate byteRate block = refuses (lit≤ tt) (lit≤ tt)
+  judged_says Unknown sides rate byteRate block = refuses (lit≤ tt) (lit≤ tt)
 
   first_says : (before : Seen) → Says rest at seen (first before (values rest))
   unfolding first values
   first_says nothing =
-      judged-says (codingOf (sizeIn lowest rest) (extraIn rest) (field lowest rest 8 2) (field lowest rest 22 2)) (channelsOf (field lowest rest 10 2))
+      judged_says (coding_of (size_in lowest rest) (extra_in rest) (field lowest rest 8 2) (field lowest rest 22 2)) (channels_of (field lowest rest 10 2))
       (field lowest rest 12 4) (field lowest rest 16 4) (field lowest rest 20 2)
   first_says (sound rate format channels) = refuses (lit≤ tt) (lit≤ tt)
 
-data-says : (rest : List ℕ) (at : ℕ) (seen : Seen) → named rest data' ≡ true → Says rest at seen (ends (dataChunk (sizeIn lowest rest) at seen))
-unfolding dataChunk
-data-says rest at nothing h = refuses (lit≤ tt) (lit≤ tt)
-data-says rest at (sound rate format channels) h = lands h (λ good. good)
+data_says : (rest : List ℕ) (at : ℕ) (seen : Seen) → named rest data' ≡ true → Says rest at seen (ends (data_chunk (size_in lowest rest) at seen))
+unfolding data_chunk
+data_says rest at nothing h = refuses (lit≤ tt) (lit≤ tt)
+data_says rest at (sound rate format channels) h = lands h (λ good. good)
 
-pub chunk-says : (rest : List ℕ) (at : ℕ) (seen : Seen) → Says rest at seen (chunk rest at seen)
-unfolding chunk fmtChunk
-chunk-says rest at seen =
+pub chunk_says : (rest : List ℕ) (at : ℕ) (seen : Seen) → Says rest at seen (chunk rest at seen)
+unfolding chunk fmt_chunk
+chunk_says rest at seen =
     cond-case (Says rest at seen) _ _ (named rest fmt)
-    (λ _. cond-case (Says rest at seen) _ _ (knownLength (sizeIn lowest rest))
+    (λ _. cond-case (Says rest at seen) _ _ (known_length (size_in lowest rest))
     (λ _. cond-case (Says rest at seen) _ _ (contained lowest rest) (λ _. first_says rest at seen seen) (λ _. refuses (lit≤ tt) (lit≤ tt)))
     (λ _. refuses (lit≤ tt) (lit≤ tt)))
-    (λ _. cond-case (Says rest at seen) _ _ (named rest data') (data-says rest at seen) (λ _. goes (λ good. good)))
+    (λ _. cond-case (Says rest at seen) _ _ (named rest data') (data_says rest at seen) (λ _. goes (λ good. good)))

@@ -1,8 +1,8 @@
 // One chunk of the reader's walk. `rest` is the front from the chunk on, and `at` the chunk's place in it.
 ghost use Rattle.std.specs.Prelude.{◌≡◌, ◌≤◌, ◌<◌, ◌^◌, length};
-ghost use Rattle.chunks.specs.Walk.{headerLength};
-ghost use Rattle.wave.specs.Walk.{judged, extraIn, values, fmtChunk, dataChunk, chunk, findAnswer};
-ghost use Rattle.wave.specs.Private.{FormatThere, seenOf, step_of};
+ghost use Rattle.chunks.specs.Walk.{header_length};
+ghost use Rattle.wave.specs.Walk.{judged, extra_in, values, fmt_chunk, data_chunk, chunk, find_answer};
+ghost use Rattle.wave.specs.Private.{FormatThere, seen_of, step_of};
 
 use crate::finder::Finding;
 use crate::refusal::Refusal;
@@ -47,7 +47,7 @@ fn judged(coding: Coding, sides: Sides, rate: u32, byterate: u32, block: u32) ->
 // The two bytes behind the sixteen of `fmt `, and 0 where there are none.
 fn extra_in(rest: &[u8]) -> u32
     requires { FormatThere rest.now }
-    ensures { result ≡ extraIn rest.now }
+    ensures { result ≡ extra_in rest.now }
 {
     if size_in(rest) != LONG_FMT_LENGTH {
         return 0;
@@ -65,8 +65,8 @@ fn format_values(rest: &[u8]) -> Step
 }
 
 fn format_chunk(rest: &[u8], seen: Seen) -> Step
-    requires { headerLength ≤ length rest.now }
-    ensures { step_of result ≡ fmtChunk rest.now (seenOf seen) }
+    requires { header_length ≤ length rest.now }
+    ensures { step_of result ≡ fmt_chunk rest.now (seen_of seen) }
 {
     if !known_length(size_in(rest)) {
         return Step::Ends(Finding::Refused(Refusal::WrongFormat));
@@ -82,7 +82,7 @@ fn format_chunk(rest: &[u8], seen: Seen) -> Step
 
 fn data_chunk(size: u32, at: usize, seen: Seen) -> Finding
     requires { at < 2 ^ 63 }
-    ensures { findAnswer result ≡ dataChunk size at (seenOf seen) }
+    ensures { find_answer result ≡ data_chunk size at (seen_of seen) }
 {
     match seen {
         Seen::Nothing => Finding::Refused(Refusal::NoFormat),
@@ -97,8 +97,8 @@ fn data_chunk(size: u32, at: usize, seen: Seen) -> Finding
 }
 
 pub(crate) fn chunk(rest: &[u8], at: usize, seen: Seen) -> Step
-    requires { (headerLength ≤ length rest.now) × (at < 2 ^ 63) }
-    ensures { step_of result ≡ chunk rest.now at (seenOf seen) }
+    requires { (header_length ≤ length rest.now) × (at < 2 ^ 63) }
+    ensures { step_of result ≡ chunk rest.now at (seen_of seen) }
 {
     if named(rest, 0, b"fmt ") {
         return format_chunk(rest, seen);

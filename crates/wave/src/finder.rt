@@ -2,8 +2,8 @@
 ghost use Rattle.std.specs.Prelude.{◌≡◌, length};
 ghost use Rattle.answers.specs.Answer.{refused};
 ghost use Rattle.fields.specs.Bytes.{lowest};
-ghost use Rattle.chunks.specs.Walk.{formLength, walk};
-ghost use Rattle.wave.specs.Walk.{nothing, chunk, find, findOf, findAnswer};
+ghost use Rattle.chunks.specs.Walk.{form_length, walk};
+ghost use Rattle.wave.specs.Walk.{nothing, chunk, find, find_of, find_answer};
 
 use crate::chunk::{Seen, Step, chunk};
 use crate::refusal::Refusal;
@@ -30,7 +30,7 @@ pub enum Finding {
 }
 
 fn walk(front: &[u8]) -> Finding
-    ensures { findAnswer result ≡ walk lowest (refused 24 0) chunk (length front.now) front.now formLength nothing }
+    ensures { find_answer result ≡ walk lowest (refused 24 0) chunk (length front.now) front.now form_length nothing }
 {
     let mut at = FORM_LENGTH;
     let mut seen = Seen::Nothing;
@@ -50,7 +50,7 @@ fn walk(front: &[u8]) -> Finding
 
 // Finds the samples of a file by its front: the first 4,096 bytes, or the whole file if shorter.
 pub fn find(front: &[u8]) -> Finding
-    ensures { findAnswer result ≡ findOf front.now }
+    ensures { find_answer result ≡ find_of front.now }
 {
     let n = least(front.len(), FRONT_LENGTH);
     let part = &front[..n];

@@ -1,6 +1,6 @@
 // The header reader: it finds the samples, and then judges their length.
 ghost use Rattle.std.specs.Prelude.{◌≡◌};
-ghost use Rattle.wave.specs.Walk.{read_of, readAnswer};
+ghost use Rattle.wave.specs.Walk.{read_of, read_answer};
 
 use crate::finder::{Finding, find};
 use crate::refusal::Refusal;
@@ -24,7 +24,7 @@ pub enum Reading {
 
 // Reads the header at the front of a file.
 pub fn read(front: &[u8]) -> Reading
-    ensures { readAnswer result ≡ read_of front.now }
+    ensures { read_answer result ≡ read_of front.now }
 {
     match find(front) {
         Finding::Data {

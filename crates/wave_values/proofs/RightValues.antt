@@ -7,12 +7,12 @@ use native.Mathlib.Nat.{mul-le-mul}
 use lib.Dec.{eqb}
 use borrow.Author.Tests.{eqb-true}
 use Rattle.fields.proofs.ByTest.{by-test}
-use Rattle.wave_values.specs.Values.{knownRate}
+use Rattle.wave_values.specs.Values.{known_rate}
 
 -- neither rate is above 48,000
-pub rate-small : (rate : ℕ) → knownRate rate ≡ true → rate ≤ 48000
-unfolding knownRate
-rate-small rate h =
+pub rate_small : (rate : ℕ) → known_rate rate ≡ true → rate ≤ 48000
+unfolding known_rate
+rate_small rate h =
     by-test (eqb rate 44100)
     (λ t. omega (arith, eqb-true rate 44100 t))
     (λ t. omega (arith, eqb-true rate 48000 (subst (λ (b : Bool). (b || eqb rate 48000) ≡ true) t h)))
@@ -31,12 +31,12 @@ frame_small {count} {each} c d e f =
     record { least = omega arith; most = omega arith }
 
 -- the byte rate of a known rate fits
-pub product-fits : (rate size : ℕ) → rate ≤ 48000 → size < 9 → rate * size < 4294967296
-product-fits rate size r s =
+pub product_fits : (rate size : ℕ) → rate ≤ 48000 → size < 9 → rate * size < 4294967296
+product_fits rate size r s =
     let eight : size ≤ 8 = omega arith in
     let l : rate * size ≤ 48000 * 8 = mul-le-mul r eight in
     omega arith
 
 -- a byte rate is tested against a frame's bytes
-pub by-frame : (rate byteRate size : ℕ) {frame : ℕ} → size ≡ frame → eqb byteRate (rate * size) ≡ eqb byteRate (rate * frame)
-by-frame rate byteRate size e = ap (λ (n : ℕ). eqb byteRate (rate * n)) e
+pub by_frame : (rate byteRate size : ℕ) {frame : ℕ} → size ≡ frame → eqb byteRate (rate * size) ≡ eqb byteRate (rate * frame)
+by_frame rate byteRate size e = ap (λ (n : ℕ). eqb byteRate (rate * n)) e

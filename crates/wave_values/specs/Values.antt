@@ -12,43 +12,43 @@ use Rattle.wave_values.specs.declared.Sides.{Sides}
 use Rattle.wave_values.specs.declared.Sides.TheVariants.{OneOrTwo, OtherCount}
 
 -- rule 8.6: the length of `fmt `, as it is written
-abbrev pub fmtLength : ℕ
-fmtLength = 16
+abbrev pub fmt_length : ℕ
+fmt_length = 16
 
 -- rule 8.6: .. and with two bytes more
-abbrev pub longFmtLength : ℕ
-longFmtLength = 18
+abbrev pub long_fmt_length : ℕ
+long_fmt_length = 18
 
 -- rule 8.6: `fmt ` has one of the two lengths
-unfoldable pub knownLength : ℕ → Bool
-knownLength size = eqb size fmtLength || eqb size longFmtLength
+unfoldable pub known_length : ℕ → Bool
+known_length size = eqb size fmt_length || eqb size long_fmt_length
 
 -- rule 8.9: the block size: the bytes of one frame, a sample of each of `count` channels
-abbrev pub frameSize : (count : ℕ) → Format → ℕ
-frameSize count format = count * size_of format
+abbrev pub frame_size : (count : ℕ) → Format → ℕ
+frame_size count format = count * size_of format
 
 -- rule 8.8: whole numbers: 16 or 24 bits, and `fmt ` has sixteen bytes
-unfoldable pub wholeCoding : (size bits : ℕ) → Coding
-wholeCoding size bits = cond (eqb size fmtLength) (cond (eqb bits 16) (Known Bits16) (cond (eqb bits 24) (Known Bits24) Unknown)) Unknown
+unfoldable pub whole_coding : (size bits : ℕ) → Coding
+whole_coding size bits = cond (eqb size fmt_length) (cond (eqb bits 16) (Known Bits16) (cond (eqb bits 24) (Known Bits24) Unknown)) Unknown
 
 -- rule 8.8: floats: 32 bits, and what `fmt ` has behind the sixteen bytes is 0
-unfoldable pub floatCoding : (extra bits : ℕ) → Coding
-floatCoding extra bits = cond (eqb bits 32) (cond (eqb extra 0) (Known Float32) Unknown) Unknown
+unfoldable pub float_coding : (extra bits : ℕ) → Coding
+float_coding extra bits = cond (eqb bits 32) (cond (eqb extra 0) (Known Float32) Unknown) Unknown
 
 -- rule 8.8: the tag says which
-unfoldable pub codingOf : (size extra tag bits : ℕ) → Coding
-codingOf size extra tag bits = cond (eqb tag 1) (wholeCoding size bits) (cond (eqb tag 3) (floatCoding extra bits) Unknown)
+unfoldable pub coding_of : (size extra tag bits : ℕ) → Coding
+coding_of size extra tag bits = cond (eqb tag 1) (whole_coding size bits) (cond (eqb tag 3) (float_coding extra bits) Unknown)
 
 -- rule 8.8: the channel count says one or two channels
-unfoldable pub channelsOf : ℕ → Sides
-channelsOf count = cond (eqb count 1) (OneOrTwo One) (cond (eqb count 2) (OneOrTwo Two) OtherCount)
+unfoldable pub channels_of : ℕ → Sides
+channels_of count = cond (eqb count 1) (OneOrTwo One) (cond (eqb count 2) (OneOrTwo Two) OtherCount)
 
 -- rule 8.8: the rate is one of the two
-unfoldable pub knownRate : ℕ → Bool
-knownRate rate = eqb rate 44100 || eqb rate 48000
+unfoldable pub known_rate : ℕ → Bool
+known_rate rate = eqb rate 44100 || eqb rate 48000
 
 -- rule 8.8: the other values are right for a format and its channels
 unfoldable pub right : Format → Channels → (rate byteRate block : ℕ) → Bool
 right format channels rate byteRate block =
-    let size = frameSize (count_of channels) format in
-    knownRate rate && (eqb block size && eqb byteRate (rate * size))
+    let size = frame_size (count_of channels) format in
+    known_rate rate && (eqb block size && eqb byteRate (rate * size))

@@ -1,7 +1,7 @@
 // The right values of a `fmt ` chunk, in one place. No call has a `requires`.
 ghost use Rattle.std.specs.Prelude.{◌≡◌, ◌<◌};
 ghost use Rattle.samples.specs.Channels.{count_of};
-ghost use Rattle.wave_values.specs.Values.{knownLength, frameSize, wholeCoding, floatCoding, codingOf, channelsOf, knownRate, right};
+ghost use Rattle.wave_values.specs.Values.{known_length, frame_size, whole_coding, float_coding, coding_of, channels_of, known_rate, right};
 
 use samples::{Channels, Format, bytes_each, channel_count};
 
@@ -26,7 +26,7 @@ pub enum Sides {
 
 // Whether `fmt ` may have a length.
 pub fn known_length(size: u32) -> bool
-    ensures { result ≡ knownLength size }
+    ensures { result ≡ known_length size }
 {
     if size == FMT_LENGTH {
         true
@@ -37,7 +37,7 @@ pub fn known_length(size: u32) -> bool
 
 // Whole numbers, of so many bits, in a `fmt ` of a length.
 fn whole_coding(size: u32, bits: u32) -> Coding
-    ensures { result ≡ wholeCoding size bits }
+    ensures { result ≡ whole_coding size bits }
 {
     if size != FMT_LENGTH {
         return Coding::Unknown;
@@ -53,7 +53,7 @@ fn whole_coding(size: u32, bits: u32) -> Coding
 
 // Floats, of so many bits, in a `fmt ` whose bytes behind the sixteen are `extra`.
 fn float_coding(extra: u32, bits: u32) -> Coding
-    ensures { result ≡ floatCoding extra bits }
+    ensures { result ≡ float_coding extra bits }
 {
     if bits != 32 {
         return Coding::Unknown;
@@ -65,7 +65,7 @@ fn float_coding(extra: u32, bits: u32) -> Coding
 }
 
 pub fn coding_of(size: u32, extra: u32, tag: u32, bits: u32) -> Coding
-    ensures { result ≡ codingOf size extra tag bits }
+    ensures { result ≡ coding_of size extra tag bits }
 {
     if tag == 1 {
         return whole_coding(size, bits);
@@ -77,7 +77,7 @@ pub fn coding_of(size: u32, extra: u32, tag: u32, bits: u32) -> Coding
 }
 
 pub fn channels_of(count: u32) -> Sides
-    ensures { result ≡ channelsOf count }
+    ensures { result ≡ channels_of count }
 {
     if count == 1 {
         return Sides::OneOrTwo(Channels::One);
@@ -90,13 +90,13 @@ pub fn channels_of(count: u32) -> Sides
 
 // The bytes of one frame: a sample of each channel.
 pub fn frame_size(channels: Channels, format: Format) -> u32
-    ensures { (result ≡ frameSize (count_of channels) format) × (0 < result) × (result < 9) }
+    ensures { (result ≡ frame_size (count_of channels) format) × (0 < result) × (result < 9) }
 {
     channel_count(channels) * bytes_each(format)
 }
 
 pub fn known_rate(rate: u32) -> bool
-    ensures { result ≡ knownRate rate }
+    ensures { result ≡ known_rate rate }
 {
     if rate == 44100 { true } else { rate == 48000 }
 }

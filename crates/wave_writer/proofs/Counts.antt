@@ -8,28 +8,28 @@ use lib.Dec.{T, lit<}
 use lib.IntN.{ℤ, pos, negsuc, nat_abs}
 use lib.Signed.{non_neg}
 use Rattle.answers.specs.Range.{within}
-use Rattle.answers.specs.Unit.{fewestChannels, mostChannels}
-use Rattle.answers.proofs.Ranges.{within-ends}
+use Rattle.answers.specs.Unit.{fewest_channels, most_channels}
+use Rattle.answers.proofs.Ranges.{within_ends}
 use Rattle.samples.specs.Channels.{count_of}
 use Rattle.samples.specs.declared.channels.Channels.{Channels}
 use Rattle.samples.specs.declared.channels.Channels.TheVariants.{One, Two}
-use Rattle.wave_values.specs.Values.{channelsOf}
+use Rattle.wave_values.specs.Values.{channels_of}
 use Rattle.wave_values.specs.declared.Sides.TheVariants.{OneOrTwo}
 
 -- one and two channels are allowed
-pub count-allowed : (channels : Channels) → within fewestChannels mostChannels (pos (count_of channels)) ≡ true
-count-allowed One = refl
-count-allowed Two = refl
+pub count_allowed_lem : (channels : Channels) → within fewest_channels most_channels (pos (count_of channels)) ≡ true
+count_allowed_lem One = refl
+count_allowed_lem Two = refl
 
 -- .. few, and read back from their number
 pub count_small : (channels : Channels) → count_of channels < 3
 count_small One = lit< tt
 count_small Two = lit< tt
 
-pub count-back : (channels : Channels) → OneOrTwo channels ≡ channelsOf (count_of channels)
-unfolding channelsOf
-count-back One = refl
-count-back Two = refl
+pub count_back : (channels : Channels) → OneOrTwo channels ≡ channels_of (count_of channels)
+unfolding channels_of
+count_back One = refl
+count_back Two = refl
 
 -- an allowed number of channels
 pub record Count (z : ℤ) : Type 0 where
@@ -39,10 +39,10 @@ pub record Count (z : ℤ) : Type 0 where
   pub least : 0 < nat_abs z
   pub most : nat_abs z < 3
 
-pub count-of : (z : ℤ) → within fewestChannels mostChannels z ≡ true → Count z
-count-of (pos zero) e = absurd (false≢true e)
-count-of (pos (suc zero)) e = record { sides = One; is = refl; not_negative = tt; least = lit< tt; most = lit< tt }
-count-of (pos (suc (suc zero))) e = record { sides = Two; is = refl; not_negative = tt; least = lit< tt; most = lit< tt }
-count-of (pos (suc (suc (suc n)))) e =
-    absurd (omega (arith, leb-true (suc (suc (suc n))) 2 (within-ends fewestChannels mostChannels (pos (suc (suc (suc n)))) e).1))
-count-of (negsuc n) e = absurd (false≢true e)
+pub count_of_lem : (z : ℤ) → within fewest_channels most_channels z ≡ true → Count z
+count_of_lem (pos zero) e = absurd (false≢true e)
+count_of_lem (pos (suc zero)) e = record { sides = One; is = refl; not_negative = tt; least = lit< tt; most = lit< tt }
+count_of_lem (pos (suc (suc zero))) e = record { sides = Two; is = refl; not_negative = tt; least = lit< tt; most = lit< tt }
+count_of_lem (pos (suc (suc (suc n)))) e =
+    absurd (omega (arith, leb-true (suc (suc (suc n))) 2 (within_ends fewest_channels most_channels (pos (suc (suc (suc n)))) e).1))
+count_of_lem (negsuc n) e = absurd (false≢true e)

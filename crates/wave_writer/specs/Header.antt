@@ -3,14 +3,14 @@ use Rattle.std.specs.Prelude.{ℕ, ◌+◌, ◌*◌, ◌%◌, List, [], ◌∷�
 use Rattle.answers.specs.Answer.{Answer, accepted, refused}
 use Rattle.answers.specs.Checks.{Check, check, Outcome, decide}
 use Rattle.answers.specs.Range.{within}
-use Rattle.answers.specs.Unit.{fewestChannels, mostChannels, largestData}
+use Rattle.answers.specs.Unit.{fewest_channels, most_channels, largest_data}
 use Rattle.fields.specs.Bytes.{lowest, row}
-use Rattle.chunks.specs.Walk.{chunkHeader, padded}
+use Rattle.chunks.specs.Walk.{chunk_header, padded}
 use Rattle.samples.specs.Format.{bits_of}
 use Rattle.samples.specs.declared.format.Format.{Format}
 use Rattle.samples.specs.declared.format.Format.TheVariants.{Bits24}
 use Rattle.wave.specs.Names.{riff, wave, fmt, data'}
-use Rattle.wave_values.specs.Values.{fmtLength, frameSize, knownRate}
+use Rattle.wave_values.specs.Values.{fmt_length, frame_size, known_rate}
 use Rattle.wave_writer.specs.declared.writer.Written.{Written}
 use Rattle.wave_writer.specs.declared.writer.Written.TheVariants.{Header, WrongBuffer, WrongRate, WrongChannels, WrongLength}
 
@@ -19,42 +19,42 @@ abbrev pub written : Format
 written = Bits24
 
 -- rule 8.13: the bytes of the header
-abbrev pub headerBytes : ℕ
-headerBytes = 44
+abbrev pub header_bytes : ℕ
+header_bytes = 44
 
 -- rule 8.13: the RIFF length counts the header from byte 8 on, and the samples with their pad
-abbrev pub riffSize : ℕ → ℕ
-riffSize size = padded size + 36
+abbrev pub riff_size : ℕ → ℕ
+riff_size size = padded size + 36
 
 -- rule 8.13: `fmt `: tag 1, channels, rate, byte rate, block size, bits
-unfoldable pub fmtContents : (rate count : ℕ) → List ℕ
-fmtContents rate count =
-    row lowest 2 1 ++ (row lowest 2 count ++ (row lowest 4 rate ++ (row lowest 4 (rate * frameSize count written)
-    ++ (row lowest 2 (frameSize count written) ++ row lowest 2 (bits_of written)))))
+unfoldable pub fmt_contents : (rate count : ℕ) → List ℕ
+fmt_contents rate count =
+    row lowest 2 1 ++ (row lowest 2 count ++ (row lowest 4 rate ++ (row lowest 4 (rate * frame_size count written)
+    ++ (row lowest 2 (frame_size count written) ++ row lowest 2 (bits_of written)))))
 
 -- rule 8.13: the 44 bytes, for a length of `size` bytes in `count` channels
 unfoldable pub header : (rate size count : ℕ) → List ℕ
 header rate size count =
-    chunkHeader lowest riff (riffSize size) ++ (wave ++ (chunkHeader lowest fmt fmtLength ++ (fmtContents rate count ++ chunkHeader lowest data' size)))
+    chunk_header lowest riff (riff_size size) ++ (wave ++ (chunk_header lowest fmt fmt_length ++ (fmt_contents rate count ++ chunk_header lowest data' size)))
 
 -- rule 6.8: the checks of `write`: a buffer of 44 bytes, one of the two rates, one or two channels, a length of whole frames that the RIFF length can hold
-abbrev pub writeChecks : List ℕ → (rate size : ℕ) → (channels : ℤ) → List (Check Written)
-writeChecks buffer rate size channels =
-    check (eqb (length buffer) headerBytes) WrongBuffer ∷
-    check (knownRate rate) WrongRate ∷
-    check (within fewestChannels mostChannels channels) WrongChannels ∷
-    check (eqb (size % frameSize (nat_abs channels) written) 0) WrongLength ∷
-    check (leb size largestData) WrongLength ∷ []
+abbrev pub write_checks : List ℕ → (rate size : ℕ) → (channels : ℤ) → List (Check Written)
+write_checks buffer rate size channels =
+    check (eqb (length buffer) header_bytes) WrongBuffer ∷
+    check (known_rate rate) WrongRate ∷
+    check (within fewest_channels most_channels channels) WrongChannels ∷
+    check (eqb (size % frame_size (nat_abs channels) written) 0) WrongLength ∷
+    check (leb size largest_data) WrongLength ∷ []
 
 -- rule 6.8, header writer: `write`, with the buffer afterwards
-unfoldable pub writeOf : List ℕ → (rate size : ℕ) → (channels : ℤ) → Outcome Written (List ℕ)
-writeOf buffer rate size channels =
-    decide (writeChecks buffer rate size channels) buffer (Header headerBytes) (header rate size (nat_abs channels))
+unfoldable pub write_of : List ℕ → (rate size : ℕ) → (channels : ℤ) → Outcome Written (List ℕ)
+write_of buffer rate size channels =
+    decide (write_checks buffer rate size channels) buffer (Header header_bytes) (header rate size (nat_abs channels))
 
 -- rule 6.8: numbers and values for `Written`
-abbrev pub writeAnswer : Written → Answer ℕ
-writeAnswer (Header n) = accepted n
-writeAnswer WrongBuffer = refused 27 0
-writeAnswer WrongRate = refused 28 0
-writeAnswer WrongChannels = refused 9 0
-writeAnswer WrongLength = refused 26 0
+abbrev pub write_answer : Written → Answer ℕ
+write_answer (Header n) = accepted n
+write_answer WrongBuffer = refused 27 0
+write_answer WrongRate = refused 28 0
+write_answer WrongChannels = refused 9 0
+write_answer WrongLength = refused 26 0

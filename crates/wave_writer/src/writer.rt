@@ -2,9 +2,9 @@
 ghost use Rattle.std.specs.Prelude.{◌≡◌, ◌+◌, ◌<◌, ◌≤◌, length};
 ghost use Rattle.std.proofs.lemmas.List.Edits.{sets};
 ghost use Rattle.answers.specs.Checks.{Done};
-ghost use Rattle.answers.specs.Unit.{largestData};
-ghost use Rattle.wave_values.specs.Values.{frameSize};
-ghost use Rattle.wave_writer.specs.Header.{written, headerBytes, riffSize, header, fmtContents, writeOf};
+ghost use Rattle.answers.specs.Unit.{largest_data};
+ghost use Rattle.wave_values.specs.Values.{frame_size};
+ghost use Rattle.wave_writer.specs.Header.{written, header_bytes, riff_size, header, fmt_contents, write_of};
 
 use answers::range::within;
 use answers::unit::{FEWEST_CHANNELS, LARGEST_DATA, MOST_CHANNELS};
@@ -36,7 +36,7 @@ pub enum Written {
 // The bytes of one frame of 24 bits.
 fn frame_of(count: u32) -> u32
     requires { (0 < count) × (count < 3) }
-    ensures { (result ≡ frameSize count written) × (0 < result) × (result < 9) }
+    ensures { (result ≡ frame_size count written) × (0 < result) × (result < 9) }
 {
     count * bytes_each(Format::Bits24)
 }
@@ -44,7 +44,7 @@ fn frame_of(count: u32) -> u32
 // The contents of `fmt ` for 24 bits, in their place.
 fn put_format(buffer: &mut [u8], rate: u32, count: u32)
     requires { (36 ≤ length buffer.old) × (rate ≤ 48000) × (0 < count) × (count < 3) }
-    ensures { buffer.new ≡ sets buffer.old 20 (fmtContents rate count) }
+    ensures { buffer.new ≡ sets buffer.old 20 (fmt_contents rate count) }
 {
     let frame = frame_of(count);
     put_two(buffer, 20, 1);
@@ -57,14 +57,14 @@ fn put_format(buffer: &mut [u8], rate: u32, count: u32)
 
 // The RIFF length: all that follows it in the file.
 fn riff_size(size: u32) -> u32
-    requires { size ≤ largestData }
-    ensures { result ≡ riffSize size }
+    requires { size ≤ largest_data }
+    ensures { result ≡ riff_size size }
 {
     size + padding(size as usize) as u32 + 36
 }
 
 fn put_header(buffer: &mut [u8], rate: u32, size: u32, count: u32)
-    requires { (length buffer.old ≡ headerBytes) × (rate ≤ 48000) × (size ≤ largestData) × (0 < count) × (count < 3) }
+    requires { (length buffer.old ≡ header_bytes) × (rate ≤ 48000) × (size ≤ largest_data) × (0 < count) × (count < 3) }
     ensures { buffer.new ≡ header rate size count }
 {
     put_chunk(buffer, 0, b"RIFF", riff_size(size));
@@ -76,7 +76,7 @@ fn put_header(buffer: &mut [u8], rate: u32, size: u32, count: u32)
 
 // Writes the header of `size` bytes of 24-bit samples at a rate, in one or two channels.
 pub fn write(buffer: &mut [u8], rate: u32, size: u32, channels: i32) -> Written
-    ensures { Done (writeOf buffer.old rate size channels) result buffer.new }
+    ensures { Done (write_of buffer.old rate size channels) result buffer.new }
 {
     if buffer.len() != HEADER_BYTES {
         return Written::WrongBuffer;

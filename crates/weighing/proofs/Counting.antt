@@ -15,8 +15,8 @@ use Rattle.weighing.specs.Helpers.{Below}
 pub nought : {z : ℤ} → SFits w32 z → of_z w32 z ≡ 0 → z ≡ pos 0
 nought f e = sym (to_z-of_z f) ∙ ap (to_z w32) e
 
-pub below-starts : (top : ℕ) (ds : List ℤ) → Below 0 top ds
-below-starts top ds = record { few = omega arith; none = λ i h. absurd (omega arith) }
+pub below_starts : (top : ℕ) (ds : List ℤ) → Below 0 top ds
+below_starts top ds = record { few = omega arith; none = λ i h. absurd (omega arith) }
 
 pub below_on : {low top : ℕ} {ds : List ℤ} → Below low top ds → low < top → get_or ds low (pos 0) ≡ pos 0 → Below (low + 1) top ds
 below_on {low} {top} {ds} b h e = record { few = omega arith; none = λ i l. by i l (dec_lt i low) }

@@ -10,10 +10,10 @@ use lib.IntN.{ℤ, pos, nat_abs, ◌-ℤ◌}
 use mir.Syntax.{w32}
 use mir.Val.{SFits}
 use mir.Facts.{to_z-of_z}
-use Rattle.whole.proofs.Signed.{var, lit, ◌⊖◌, eq-by, about}
+use Rattle.whole.proofs.Signed.{var, lit, ◌⊖◌, eq_by, about}
 use Rattle.whole.proofs.Magnitude.{abs--ℤ}
 use Rattle.whole.proofs.Rounded.{raw}
-use Rattle.tree.specs.Signal.{gainOf}
+use Rattle.tree.specs.Signal.{gain_of}
 use Rattle.weighing.specs.Helpers.{Differ, Small, Above}
 
 -- ---- one difference
@@ -32,7 +32,7 @@ lessened a b fa fb ha hb =
 -- nothing stands above the last
 pub last_one : (gains : List ℤ) (i : ℕ) → length gains ≤ i + 1 → get_or gains i (pos 0) ≡ get_or gains i (pos 0) -ℤ get_or gains (i + 1) (pos 0)
 last_one gains i h =
-    rw (get_or-eq_default gains (pos 0) {n = i + 1} h) (eq-by (var (get_or gains i (pos 0))) (var (get_or gains i (pos 0)) ⊖ lit 0) (omega arith))
+    rw (get_or-eq_default gains (pos 0) {n = i + 1} h) (eq_by (var (get_or gains i (pos 0))) (var (get_or gains i (pos 0)) ⊖ lit 0) (omega arith))
 
 -- ---- all of them
 
@@ -44,18 +44,18 @@ pub record Finding (gains found : List ℤ) (i : ℕ) : Type 0 where
   pub rest : (j : ℕ) → i ≤ j → get_or found j (pos 0) ≡ pos 0
   pub small : (j : ℕ) → nat_abs (get_or found j (pos 0)) ≤ 2 ^ 15
 
-pub finding-starts : (gains : List ℤ) → Finding gains (replicate 10 (pos 0)) 0
-finding-starts gains = record { reached = omega arith; long = refl; placed = λ j h. absurd (omega arith); rest = λ j h. all-nought 10 j; small = λ j. rw (all-nought 10 j) (omega arith) }
+pub finding_starts : (gains : List ℤ) → Finding gains (replicate 10 (pos 0)) 0
+finding_starts gains = record { reached = omega arith; long = refl; placed = λ j h. absurd (omega arith); rest = λ j h. all_nought 10 j; small = λ j. rw (all_nought 10 j) (omega arith) }
   where
-    all-nought : (n j : ℕ) → get_or (replicate n (pos 0)) j (pos 0) ≡ pos 0
-    all-nought zero j = refl
-    all-nought (suc n) zero = refl
-    all-nought (suc n) (suc j) = all-nought n j
+    all_nought : (n j : ℕ) → get_or (replicate n (pos 0)) j (pos 0) ≡ pos 0
+    all_nought zero j = refl
+    all_nought (suc n) zero = refl
+    all_nought (suc n) (suc j) = all_nought n j
 
 module _ (gains found : List ℤ) (i : ℕ) (f : Finding gains found i) where
-  pub finding-on : (r : ℤ) → i < length gains → length gains ≤ 10 → r ≡ get_or gains i (pos 0) -ℤ get_or gains (i + 1) (pos 0) → nat_abs r ≤ 2 ^ 15 →
+  pub finding_on : (r : ℤ) → i < length gains → length gains ≤ 10 → r ≡ get_or gains i (pos 0) -ℤ get_or gains (i + 1) (pos 0) → nat_abs r ≤ 2 ^ 15 →
       Finding gains (set found i (raw w32 r)) (i + 1)
-  finding-on r h few e s =
+  finding_on r h few e s =
       let back : raw w32 r ≡ r = to_z-of_z (record { sfits = omega (arith, about r) }) in
       let same : get_or (set found i (raw w32 r)) i (pos 0) ≡ r = get_or-set_same found i (raw w32 r) (pos 0) (omega (arith, f.long)) ∙ back in
       record {
@@ -76,20 +76,20 @@ module _ (gains found : List ℤ) (i : ℕ) (f : Finding gains found i) where
       small_by j same (no n) (yes q) = rw (get_or-set_other found i j (raw w32 r) (pos 0) (λ z. omega arith)) (f.small j)
       small_by j same (no n) (no k) = let z : j ≡ i = omega arith in rw (z, same) s
 
-  pub finding-ends : length gains ≤ i → Differ (gainOf gains) found × Small found × Above (length gains) found
-  finding-ends h = (
+  pub finding_ends : length gains ≤ i → Differ (gain_of gains) found × Small found × Above (length gains) found
+  finding_ends h = (
     record { at_place = λ j. by j (dec_lt j (length gains)) },
     record { range = f.small },
     record { none = λ j l. f.rest j (omega (arith, f.reached)) },
   )
     where
       -- behind the last gain there are zeros on both sides
-      by : (j : ℕ) → Dec (j < length gains) → get_or found j (pos 0) ≡ gainOf gains (suc j) -ℤ gainOf gains (suc (suc j))
+      by : (j : ℕ) → Dec (j < length gains) → get_or found j (pos 0) ≡ gain_of gains (suc j) -ℤ gain_of gains (suc (suc j))
       by j (yes l) = f.placed j (omega arith) ∙ ap₂ (λ (u v : ℕ). get_or gains u (pos 0) -ℤ get_or gains v (pos 0)) (omega arith) (omega arith)
       by j (no n) =
           f.rest j (omega (arith, f.reached)) ∙
           sym (ap₂ ◌-ℤ◌ (get_or-eq_default gains (pos 0) {n = suc j - 1} (omega arith)) (get_or-eq_default gains (pos 0) {n = suc (suc j) - 1} (omega arith)))
 
 -- a band above the last has no gain
-pub none_above : (gains : List ℤ) {bands : ℕ} → length gains ≤ bands → gainOf gains (suc bands) ≡ pos 0
+pub none_above : (gains : List ℤ) {bands : ℕ} → length gains ≤ bands → gain_of gains (suc bands) ≡ pos 0
 none_above gains {bands} e = get_or-eq_default gains (pos 0) {n = suc bands - 1} (omega arith)

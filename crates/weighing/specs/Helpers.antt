@@ -2,7 +2,7 @@
 use Rattle.std.specs.Prelude.{◌≡◌, List, ℕ, suc, ◌+◌, ◌-◌, ◌*◌, ◌^◌, ◌≤◌, ◌<◌, length, get_or, ℤ, pos, nat_abs, ◌-ℤ◌, ◌*ℤ◌}
 use Rattle.whole.specs.Sum.{sum}
 use Rattle.frames.specs.Frames.{side}
-use Rattle.lines.specs.Rows.{rowPlaces, Shown, columns, Even}
+use Rattle.lines.specs.Rows.{row_places, Shown, columns, Even}
 use Rattle.weighing.specs.Weighing.{outputs}
 
 -- ---- the gains
@@ -32,12 +32,12 @@ pub record Below (low top : ℕ) (differences : List ℤ) : Type 0 where
 -- ---- the rows weighed
 
 -- the gain sum of sample i by differences (rule 3.13): the first n of the bands, the top one first; line bands - k stands in row k
-abbrev pub gainSum : (n bands i : ℕ) (matrix differences : List ℤ) → ℤ
-gainSum n bands i matrix differences = sum n (λ k. get_or differences (bands - 1 - k) (pos 0) *ℤ get_or matrix (rowPlaces * k + i) (pos 0))
+abbrev pub gain_sum : (n bands i : ℕ) (matrix differences : List ℤ) → ℤ
+gain_sum n bands i matrix differences = sum n (λ k. get_or differences (bands - 1 - k) (pos 0) *ℤ get_or matrix (row_places * k + i) (pos 0))
 
 -- .. of all bands. |r| ≤ bands·2^46 for any places (rule 5.12)
 pub record SumDone (bands i : ℕ) (matrix differences : List ℤ) (r : ℤ) : Type 0 where
-  pub value : r ≡ gainSum bands bands i matrix differences
+  pub value : r ≡ gain_sum bands bands i matrix differences
   pub bounded : nat_abs r ≤ bands * 2 ^ 46
 
 -- for any gains g with these differences and g(bands+1) = 0, the outputs of the rows that the matrix shows

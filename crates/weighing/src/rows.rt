@@ -1,7 +1,7 @@
 // The aligned rows of the lines weighed with the gain differences: the gain sum, rounded once and limited once. Gains enter here alone.
 ghost use Rattle.std.specs.Prelude.{◌≤◌, ◌<◌, ◌*◌, ◌≡◌, length};
-ghost use Rattle.tree.specs.Signal.{gainOf};
-ghost use Rattle.lines.specs.Rows.{rowPlaces};
+ghost use Rattle.tree.specs.Signal.{gain_of};
+ghost use Rattle.lines.specs.Rows.{row_places};
 ghost use Rattle.weighing.specs.Helpers.{Allowed, Small, Above, Below, SumDone, SideWeighed, WeighedUnder};
 
 use crate::differences::differences;
@@ -35,7 +35,7 @@ fn sum_at(
     i: usize,
     differences: &[i32; 10],
 ) -> i64
-    requires { (bands ≤ 10) × (i < rowPlaces) × (rowPlaces * bands ≤ length rows.now) × Small differences.now × (top ≤ bands) × Above top differences.now × Below low top differences.now }
+    requires { (bands ≤ 10) × (i < row_places) × (row_places * bands ≤ length rows.now) × Small differences.now × (top ≤ bands) × Above top differences.now × Below low top differences.now }
     ensures { SumDone bands i rows.now differences.now result }
 {
     let mut sum = 0;
@@ -61,7 +61,7 @@ pub fn weigh_rows(
     n: usize,
     output: &mut [i32],
 )
-    requires { (1 ≤ bands) × (bands ≤ 10) × (n ≤ rowPlaces) × (rowPlaces * bands ≤ length rows.now) × Small differences.now × (top ≤ bands) × Above top differences.now × Below low top differences.now × (s < channels) × (length output.old ≡ channels * n) }
+    requires { (1 ≤ bands) × (bands ≤ 10) × (n ≤ row_places) × (row_places * bands ≤ length rows.now) × Small differences.now × (top ≤ bands) × Above top differences.now × Below low top differences.now × (s < channels) × (length output.old ≡ channels * n) }
     ensures { SideWeighed channels s n bands rows.now differences.now output.old output.new }
 {
     let mut i = 0;
@@ -88,8 +88,8 @@ pub fn weigh_with(
     n: usize,
     output: &mut [i32],
 )
-    requires { Allowed bands gains.now × (1 ≤ bands) × (bands ≤ 10) × (n ≤ rowPlaces) × (rowPlaces * bands ≤ length rows.now) × (s < channels) × (length output.old ≡ channels * n) }
-    ensures { WeighedUnder channels s n bands (gainOf gains.now) rows.now output.old output.new }
+    requires { Allowed bands gains.now × (1 ≤ bands) × (bands ≤ 10) × (n ≤ row_places) × (row_places * bands ≤ length rows.now) × (s < channels) × (length output.old ≡ channels * n) }
+    ensures { WeighedUnder channels s n bands (gain_of gains.now) rows.now output.old output.new }
 {
     let weights = differences(gains);
     let low = lowest(&weights, gains.len());

@@ -10,76 +10,76 @@ use lib.Signed.{lt_z, ◌≤ℤ◌, ◌<ℤ◌, ≤ℤ_refl}
 use mir.Syntax.{w32}
 use mir.Val.{SFits}
 use mir.Facts.{sfits_lit}
-use Rattle.answers.specs.Unit.{leastSample, mostSample, leastPlace, mostPlace}
+use Rattle.answers.specs.Unit.{least_sample, most_sample, least_place, most_place}
 use Rattle.whole.specs.Limit.{limit}
-use Rattle.whole.proofs.Signed.{up, down, var, lit, ◌⊖◌, ◌⊗◌, Near, eq-by, le-by, lt_by, abs-by, abs-of, mag-by, mag_of, le_of, lt_of, read-le, lt_z_yes, lt_z_no, signed}
-use Rattle.whole.proofs.Magnitude.{abs-sym}
+use Rattle.whole.proofs.Signed.{up, down, var, lit, ◌⊖◌, ◌⊗◌, Near, eq_by, le_by, lt_by, abs_by, abs_of, mag_by, mag_of, le_of, lt_of, read_le, lt_z_yes, lt_z_no, signed}
+use Rattle.whole.proofs.Magnitude.{abs_sym}
 
 -- ---- the three cases
 
 -- to prove P (limit lo hi z): prove P lo where z < lo, P hi where hi < z, and P z where lo ≤ z ≤ hi
-pub limit-cases : (lo hi z : ℤ) (P : ℤ → Type 0) → (z <ℤ lo → P lo) → (hi <ℤ z → P hi) → (lo ≤ℤ z → z ≤ℤ hi → P z) → P (limit lo hi z)
-limit-cases lo hi z P below above within = outer (lt_z z lo) refl
+pub limit_cases : (lo hi z : ℤ) (P : ℤ → Type 0) → (z <ℤ lo → P lo) → (hi <ℤ z → P hi) → (lo ≤ℤ z → z ≤ℤ hi → P z) → P (limit lo hi z)
+limit_cases lo hi z P below above within = outer (lt_z z lo) refl
   where
     inner : (t : Bool) → lt_z hi z ≡ t → lo ≤ℤ z → P (cond t hi z)
     inner true e l = above (lt_by (var hi) (var z) (lt_z_yes hi z e))
-    inner false e l = within l (le-by (var z) (var hi) (lt_z_no hi z e))
+    inner false e l = within l (le_by (var z) (var hi) (lt_z_no hi z e))
 
     outer : (t : Bool) → lt_z z lo ≡ t → P (cond t lo (cond (lt_z hi z) hi z))
     outer true e = below (lt_by (var z) (var lo) (lt_z_yes z lo e))
-    outer false e = inner (lt_z hi z) refl (le-by (var lo) (var z) (lt_z_no z lo e))
+    outer false e = inner (lt_z hi z) refl (le_by (var lo) (var z) (lt_z_no z lo e))
 
 -- ---- range
 
 pub limit-least : (lo hi z : ℤ) → lo ≤ℤ hi → lo ≤ℤ limit lo hi z
-limit-least lo hi z o = limit-cases lo hi z (λ w. lo ≤ℤ w) (λ _. ≤ℤ_refl lo) (λ _. o) (λ l _. l)
+limit-least lo hi z o = limit_cases lo hi z (λ w. lo ≤ℤ w) (λ _. ≤ℤ_refl lo) (λ _. o) (λ l _. l)
 
-pub limit-most : (lo hi z : ℤ) → lo ≤ℤ hi → limit lo hi z ≤ℤ hi
-limit-most lo hi z o = limit-cases lo hi z (λ w. w ≤ℤ hi) (λ _. o) (λ _. ≤ℤ_refl hi) (λ _ h. h)
+pub limit_most : (lo hi z : ℤ) → lo ≤ℤ hi → limit lo hi z ≤ℤ hi
+limit_most lo hi z o = limit_cases lo hi z (λ w. w ≤ℤ hi) (λ _. o) (λ _. ≤ℤ_refl hi) (λ _ h. h)
 
-pub limit-id : (lo hi z : ℤ) → lo ≤ℤ z → z ≤ℤ hi → limit lo hi z ≡ z
-limit-id lo hi z l h =
-    limit-cases lo hi z (λ w. w ≡ z) (λ k. eq-by (var lo) (var z) (omega signed)) (λ k. eq-by (var hi) (var z) (omega signed))
+pub limit_id : (lo hi z : ℤ) → lo ≤ℤ z → z ≤ℤ hi → limit lo hi z ≡ z
+limit_id lo hi z l h =
+    limit_cases lo hi z (λ w. w ≡ z) (λ k. eq_by (var lo) (var z) (omega signed)) (λ k. eq_by (var hi) (var z) (omega signed))
     (λ _ _. refl)
 
 -- ---- monotone
 
 pub limit-mono : (lo hi : ℤ) → lo ≤ℤ hi → {y z : ℤ} → y ≤ℤ z → limit lo hi y ≤ℤ limit lo hi z
 limit-mono lo hi o {y} {z} k =
-    limit-cases lo hi y (λ w. w ≤ℤ limit lo hi z) (λ _. limit-least lo hi z o)
-    (λ b. limit-cases lo hi z (λ w. hi ≤ℤ w) (λ c. le-by (var hi) (var lo) (omega signed)) (λ _. ≤ℤ_refl hi)
-    (λ _ d. le-by (var hi) (var z) (omega signed)))
-    (λ l h. limit-cases lo hi z (λ w. y ≤ℤ w) (λ c. le-by (var y) (var lo) (omega signed)) (λ _. h) (λ _ _. k))
+    limit_cases lo hi y (λ w. w ≤ℤ limit lo hi z) (λ _. limit-least lo hi z o)
+    (λ b. limit_cases lo hi z (λ w. hi ≤ℤ w) (λ c. le_by (var hi) (var lo) (omega signed)) (λ _. ≤ℤ_refl hi)
+    (λ _ d. le_by (var hi) (var z) (omega signed)))
+    (λ l h. limit_cases lo hi z (λ w. y ≤ℤ w) (λ c. le_by (var y) (var lo) (omega signed)) (λ _. h) (λ _ _. k))
 
 -- ---- distance of two limited numbers
 
 -- limit z - limit y ≤ |z - y|; with y and z exchanged it bounds the distance from both sides
 gap : (lo hi : ℤ) → lo ≤ℤ hi → (y z : ℤ) → (limit lo hi z -ℤ limit lo hi y) ≤ℤ pos (nat_abs (z -ℤ y))
 gap lo hi o y z =
-    limit-cases lo hi y (λ w. (limit lo hi z -ℤ w) ≤ℤ pos d)
-    (λ b. limit-cases lo hi z (λ w. (w -ℤ lo) ≤ℤ pos d) (λ _. zero-gap lo) (λ c. step hi lo (omega (signed, near.not-above)))
-    (λ l h. step z lo (omega (signed, near.not-above))))
-    (λ a. limit-cases lo hi z (λ w. (w -ℤ hi) ≤ℤ pos d) (λ _. step lo hi (omega signed)) (λ _. zero-gap hi)
+    limit_cases lo hi y (λ w. (limit lo hi z -ℤ w) ≤ℤ pos d)
+    (λ b. limit_cases lo hi z (λ w. (w -ℤ lo) ≤ℤ pos d) (λ _. zero_gap lo) (λ c. step hi lo (omega (signed, near.not_above)))
+    (λ l h. step z lo (omega (signed, near.not_above))))
+    (λ a. limit_cases lo hi z (λ w. (w -ℤ hi) ≤ℤ pos d) (λ _. step lo hi (omega signed)) (λ _. zero_gap hi)
     (λ l h. step z hi (omega signed)))
-    (λ l h. limit-cases lo hi z (λ w. (w -ℤ y) ≤ℤ pos d) (λ _. step lo y (omega signed))
-    (λ c. step hi y (omega (signed, near.not-above))) (λ _ _. step z y (omega (arith, near.not-above))))
+    (λ l h. limit_cases lo hi z (λ w. (w -ℤ y) ≤ℤ pos d) (λ _. step lo y (omega signed))
+    (λ c. step hi y (omega (signed, near.not_above))) (λ _ _. step z y (omega (arith, near.not_above))))
   where
     d : ℕ
     d = nat_abs (z -ℤ y)
 
     near : Near (up z + down y) (down z + up y) d
-    near = abs-of (var z ⊖ var y) d (le_refl d)
+    near = abs_of (var z ⊖ var y) d (le_refl d)
 
     step : (a b : ℤ) → up a + down b ≤ d + (down a + up b) → (a -ℤ b) ≤ℤ pos d
-    step a b h = le-by (var a ⊖ var b) (lit d) (omega arith)
+    step a b h = le_by (var a ⊖ var b) (lit d) (omega arith)
 
-    zero-gap : (a : ℤ) → (a -ℤ a) ≤ℤ pos d
-    zero-gap a = step a a (omega arith)
+    zero_gap : (a : ℤ) → (a -ℤ a) ≤ℤ pos d
+    zero_gap a = step a a (omega arith)
 
-pub limit-near : (lo hi : ℤ) → lo ≤ℤ hi → (y z : ℤ) → nat_abs (limit lo hi z -ℤ limit lo hi y) ≤ nat_abs (z -ℤ y)
-limit-near lo hi o y z =
-    abs-by (var a ⊖ var b) (nat_abs (z -ℤ y)) (omega (arith, le_of (var a ⊖ var b) (lit (nat_abs (z -ℤ y))) (gap lo hi o y z)))
-    (omega (arith, le_of (var b ⊖ var a) (lit (nat_abs (y -ℤ z))) (gap lo hi o z y), abs-sym y z))
+pub limit_near : (lo hi : ℤ) → lo ≤ℤ hi → (y z : ℤ) → nat_abs (limit lo hi z -ℤ limit lo hi y) ≤ nat_abs (z -ℤ y)
+limit_near lo hi o y z =
+    abs_by (var a ⊖ var b) (nat_abs (z -ℤ y)) (omega (arith, le_of (var a ⊖ var b) (lit (nat_abs (z -ℤ y))) (gap lo hi o y z)))
+    (omega (arith, le_of (var b ⊖ var a) (lit (nat_abs (y -ℤ z))) (gap lo hi o z y), abs_sym y z))
   where
     a : ℤ
     a = limit lo hi z
@@ -97,8 +97,8 @@ false_of : (t : Bool) → (T t → ⊥) → t ≡ false
 false_of true n = absurd (n tt)
 false_of false n = refl
 
-ltZ-scale : (k : ℕ) → 0 < k → (a b : ℤ) → lt_z (pos k *ℤ a) (pos k *ℤ b) ≡ lt_z a b
-ltZ-scale k h a b = by (lt_z a b) refl
+lt_z_scale : (k : ℕ) → 0 < k → (a b : ℤ) → lt_z (pos k *ℤ a) (pos k *ℤ b) ≡ lt_z a b
+lt_z_scale k h a b = by (lt_z a b) refl
   where
     by : (t : Bool) → lt_z a b ≡ t → lt_z (pos k *ℤ a) (pos k *ℤ b) ≡ t
     by true e =
@@ -110,7 +110,7 @@ ltZ-scale k h a b = by (lt_z a b) refl
 
 -- limiting k·z to k·lo and k·hi is k times the limited z
 pub limit-scale : (k : ℕ) → 0 < k → (lo hi z : ℤ) → limit (pos k *ℤ lo) (pos k *ℤ hi) (pos k *ℤ z) ≡ pos k *ℤ limit lo hi z
-limit-scale k h lo hi z = rw (ltZ-scale k h z lo, ltZ-scale k h hi z) (by (lt_z z lo) (lt_z hi z))
+limit-scale k h lo hi z = rw (lt_z_scale k h z lo, lt_z_scale k h hi z) (by (lt_z z lo) (lt_z hi z))
   where
     by : (t u : Bool) → cond t (pos k *ℤ lo) (cond u (pos k *ℤ hi) (pos k *ℤ z)) ≡ pos k *ℤ cond t lo (cond u hi z)
     by true u = refl
@@ -119,18 +119,18 @@ limit-scale k h lo hi z = rw (ltZ-scale k h z lo, ltZ-scale k h hi z) (by (lt_z 
 
 -- ---- a sample's ends and a place's
 
-pub limit24-fits : (z : ℤ) → SFits w32 (limit leastSample mostSample z)
-limit24-fits z =
-    limit-cases leastSample mostSample z (SFits w32) (λ _. sfits_lit tt) (λ _. sfits_lit tt)
-    (λ l h. record { sfits = mag-by (var z) (2 ^ 31) (omega (arith, read-le z mostSample h)) (omega (arith, read-le leastSample z l)) })
+pub limit24_fits : (z : ℤ) → SFits w32 (limit least_sample most_sample z)
+limit24_fits z =
+    limit_cases least_sample most_sample z (SFits w32) (λ _. sfits_lit tt) (λ _. sfits_lit tt)
+    (λ l h. record { sfits = mag_by (var z) (2 ^ 31) (omega (arith, read_le z most_sample h)) (omega (arith, read_le least_sample z l)) })
 
-pub limit32-fits : (z : ℤ) → SFits w32 (limit leastPlace mostPlace z)
-limit32-fits z =
-    limit-cases leastPlace mostPlace z (SFits w32) (λ _. sfits_lit tt) (λ _. sfits_lit tt)
-    (λ l h. record { sfits = mag-by (var z) (2 ^ 31) (omega (arith, read-le z mostPlace h)) (omega (arith, read-le leastPlace z l)) })
+pub limit32_fits : (z : ℤ) → SFits w32 (limit least_place most_place z)
+limit32_fits z =
+    limit_cases least_place most_place z (SFits w32) (λ _. sfits_lit tt) (λ _. sfits_lit tt)
+    (λ l h. record { sfits = mag_by (var z) (2 ^ 31) (omega (arith, read_le z most_place h)) (omega (arith, read_le least_place z l)) })
 
 -- what fits 32 bits is not moved
-pub limit32-id : {z : ℤ} → SFits w32 z → limit leastPlace mostPlace z ≡ z
-limit32-id {z} f =
-    limit-id leastPlace mostPlace z (le-by (var leastPlace) (var z) (omega (arith, mag_of (var z) (2 ^ 31) f.sfits)))
-    (le-by (var z) (var mostPlace) (omega (arith, mag_of (var z) (2 ^ 31) f.sfits)))
+pub limit32_id : {z : ℤ} → SFits w32 z → limit least_place most_place z ≡ z
+limit32_id {z} f =
+    limit_id least_place most_place z (le_by (var least_place) (var z) (omega (arith, mag_of (var z) (2 ^ 31) f.sfits)))
+    (le_by (var z) (var most_place) (omega (arith, mag_of (var z) (2 ^ 31) f.sfits)))

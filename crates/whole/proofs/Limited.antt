@@ -9,7 +9,7 @@ use mir.Syntax.{w32, w64}
 use mir.Val.{SFits}
 use mir.Facts.{to_z-of_z}
 use Rattle.whole.specs.Limit.{limit}
-use Rattle.whole.proofs.Signed.{var, mag-by, mag_of, lt_z_no}
+use Rattle.whole.proofs.Signed.{var, mag_by, mag_of, lt_z_no}
 use Rattle.whole.proofs.Rounded.{raw}
 
 pub record Within (lo hi z : ℤ) : Type 0 where
@@ -28,5 +28,5 @@ module _ (lo hi z : ℤ) (fits : SFits w64 z) where
       let l : lt_z z lo ≡ false = rw (to_z-of_z fits) at t in
       let h : lt_z hi z ≡ false = rw (to_z-of_z fits) at u in
       let small : SFits w32 z =
-      record { sfits = mag-by (var z) (2 ^ 31) (omega (arith, lt_z_no hi z h, mag_of (var hi) (2 ^ 31) g.sfits)) (omega (arith, lt_z_no z lo l, mag_of (var lo) (2 ^ 31) f.sfits)) } in
+      record { sfits = mag_by (var z) (2 ^ 31) (omega (arith, lt_z_no hi z h, mag_of (var hi) (2 ^ 31) g.sfits)) (omega (arith, lt_z_no z lo l, mag_of (var lo) (2 ^ 31) f.sfits)) } in
       record { cast_fits = rw (to_z-of_z fits) small; answer = rw (to_z-of_z fits, to_z-of_z small, l, h) refl }

@@ -48,17 +48,17 @@ up_neg (pos zero) = refl
 up_neg (pos (suc n)) = refl
 up_neg (negsuc n) = refl
 
-pub down-neg : (a : ℤ) → down (neg_ℤ a) ≡ up a
-down-neg (pos zero) = refl
-down-neg (pos (suc n)) = refl
-down-neg (negsuc n) = refl
+pub down_neg : (a : ℤ) → down (neg_ℤ a) ≡ up a
+down_neg (pos zero) = refl
+down_neg (pos (suc n)) = refl
+down_neg (negsuc n) = refl
 
-pub mul-parts : (a b : ℤ) →
+pub mul_parts : (a b : ℤ) →
     up (a *ℤ b) + (up a * down b + down a * up b) ≡ down (a *ℤ b) + (up a * up b + down a * down b)
-mul-parts (pos a) (pos b) = omega arith
-mul-parts (pos a) (negsuc b) = omega (arith, up_neg (pos (a * suc b)), down-neg (pos (a * suc b)))
-mul-parts (negsuc a) (pos b) = omega (arith, up_neg (pos (suc a * b)), down-neg (pos (suc a * b)))
-mul-parts (negsuc a) (negsuc b) = omega arith
+mul_parts (pos a) (pos b) = omega arith
+mul_parts (pos a) (negsuc b) = omega (arith, up_neg (pos (a * suc b)), down_neg (pos (a * suc b)))
+mul_parts (negsuc a) (pos b) = omega (arith, up_neg (pos (suc a * b)), down_neg (pos (suc a * b)))
+mul_parts (negsuc a) (negsuc b) = omega arith
 
 -- ---- a number as a difference
 
@@ -86,7 +86,7 @@ abbrev pub neg : Diff → Diff
 neg x = record { z = neg_ℤ x.z; p = x.n; n = x.p; same = turned }
   where
     turned : x.n + down (neg_ℤ x.z) ≡ x.p + up (neg_ℤ x.z)
-    turned = omega (arith, x.same, up_neg x.z, down-neg x.z)
+    turned = omega (arith, x.same, up_neg x.z, down_neg x.z)
 
 abbrev pub ◌⊕◌ : Diff → Diff → Diff
 x ⊕ y = record { z = x.z +ℤ y.z; p = x.p + y.p; n = x.n + y.n; same = joined }
@@ -114,15 +114,15 @@ x ⊗ y = record { z = x.z *ℤ y.z; p = x.p * y.p + x.n * y.n; n = x.p * y.n + 
     spread : (x y : Diff) → x.p * y.p + x.n * y.n + down (x.z *ℤ y.z) ≡ x.p * y.n + x.n * y.p + up (x.z *ℤ y.z)
     spread x y =
         both x.p x.n (up x.z) (down x.z) y.p y.n (up y.z) (down y.z) (up (x.z *ℤ y.z))
-        (down (x.z *ℤ y.z)) x.same y.same (mul-parts x.z y.z)
+        (down (x.z *ℤ y.z)) x.same y.same (mul_parts x.z y.z)
 
 -- ---- relations by the parts
 
-parts-eq : (a b : ℤ) → up a + down b ≡ up b + down a → a ≡ b
-parts-eq (pos a) (pos b) e = ap pos (omega arith)
-parts-eq (pos a) (negsuc b) e = absurd (omega arith)
-parts-eq (negsuc a) (pos b) e = absurd (omega arith)
-parts-eq (negsuc a) (negsuc b) e = ap negsuc (omega arith)
+parts_eq : (a b : ℤ) → up a + down b ≡ up b + down a → a ≡ b
+parts_eq (pos a) (pos b) e = ap pos (omega arith)
+parts_eq (pos a) (negsuc b) e = absurd (omega arith)
+parts_eq (negsuc a) (pos b) e = absurd (omega arith)
+parts_eq (negsuc a) (negsuc b) e = ap negsuc (omega arith)
 
 le_parts : (a b : ℤ) → up a + down b ≤ up b + down a → T (le_z a b)
 le_parts (pos a) (pos b) h = le→leb a b (omega arith)
@@ -130,50 +130,50 @@ le_parts (pos a) (negsuc b) h = absurd (omega arith)
 le_parts (negsuc a) (pos b) h = tt
 le_parts (negsuc a) (negsuc b) h = le→leb b a (omega arith)
 
-parts-le : (a b : ℤ) → T (le_z a b) → up a + down b ≤ up b + down a
-parts-le (pos a) (pos b) t = omega (arith, leb→le a b t)
-parts-le (pos a) (negsuc b) t = absurd t
-parts-le (negsuc a) (pos b) t = omega arith
-parts-le (negsuc a) (negsuc b) t = omega (arith, leb→le b a t)
+parts_le : (a b : ℤ) → T (le_z a b) → up a + down b ≤ up b + down a
+parts_le (pos a) (pos b) t = omega (arith, leb→le a b t)
+parts_le (pos a) (negsuc b) t = absurd t
+parts_le (negsuc a) (pos b) t = omega arith
+parts_le (negsuc a) (negsuc b) t = omega (arith, leb→le b a t)
 
-lt-parts : (a b : ℤ) → up a + down b < up b + down a → T (lt_z a b)
-lt-parts (pos a) (pos b) h = lt→ltb a b (omega arith)
-lt-parts (pos a) (negsuc b) h = absurd (omega arith)
-lt-parts (negsuc a) (pos b) h = tt
-lt-parts (negsuc a) (negsuc b) h = lt→ltb b a (omega arith)
+lt_parts : (a b : ℤ) → up a + down b < up b + down a → T (lt_z a b)
+lt_parts (pos a) (pos b) h = lt→ltb a b (omega arith)
+lt_parts (pos a) (negsuc b) h = absurd (omega arith)
+lt_parts (negsuc a) (pos b) h = tt
+lt_parts (negsuc a) (negsuc b) h = lt→ltb b a (omega arith)
 
-parts-lt : (a b : ℤ) → T (lt_z a b) → up a + down b < up b + down a
-parts-lt (pos a) (pos b) t = omega (arith, ltb→lt a b t)
-parts-lt (pos a) (negsuc b) t = absurd t
-parts-lt (negsuc a) (pos b) t = omega arith
-parts-lt (negsuc a) (negsuc b) t = omega (arith, ltb→lt b a t)
+parts_lt : (a b : ℤ) → T (lt_z a b) → up a + down b < up b + down a
+parts_lt (pos a) (pos b) t = omega (arith, ltb→lt a b t)
+parts_lt (pos a) (negsuc b) t = absurd t
+parts_lt (negsuc a) (pos b) t = omega arith
+parts_lt (negsuc a) (negsuc b) t = omega (arith, ltb→lt b a t)
 
 -- the sizes of a number by its parts, of which one is 0
 pub record About (a : ℤ) : Type 0 where
   pub abs_is : nat_abs a ≡ up a + down a
-  pub one-is-none : min (up a) (down a) ≡ 0
+  pub one_is_none : min (up a) (down a) ≡ 0
   pub mag_is : mag a ≡ up a + pred (down a)
 
 pub about : (a : ℤ) → About a
-about (pos n) = record { abs_is = omega arith; one-is-none = omega arith; mag_is = omega arith }
-about (negsuc n) = record { abs_is = omega arith; one-is-none = omega arith; mag_is = omega arith }
+about (pos n) = record { abs_is = omega arith; one_is_none = omega arith; mag_is = omega arith }
+about (negsuc n) = record { abs_is = omega arith; one_is_none = omega arith; mag_is = omega arith }
 
 -- ---- from a fact on p and n to one on z
 
-pub eq-by : (x y : Diff) → x.p + y.n ≡ y.p + x.n → x.z ≡ y.z
-eq-by x y e = parts-eq x.z y.z (omega (arith, x.same, y.same))
+pub eq_by : (x y : Diff) → x.p + y.n ≡ y.p + x.n → x.z ≡ y.z
+eq_by x y e = parts_eq x.z y.z (omega (arith, x.same, y.same))
 
-pub le-by : (x y : Diff) → x.p + y.n ≤ y.p + x.n → x.z ≤ℤ y.z
-le-by x y h = record { le = le_parts x.z y.z (omega (arith, x.same, y.same)) }
+pub le_by : (x y : Diff) → x.p + y.n ≤ y.p + x.n → x.z ≤ℤ y.z
+le_by x y h = record { le = le_parts x.z y.z (omega (arith, x.same, y.same)) }
 
 pub lt_by : (x y : Diff) → x.p + y.n < y.p + x.n → x.z <ℤ y.z
-lt_by x y h = record { lt = lt-parts x.z y.z (omega (arith, x.same, y.same)) }
+lt_by x y h = record { lt = lt_parts x.z y.z (omega (arith, x.same, y.same)) }
 
-pub abs-by : (x : Diff) (k : ℕ) → x.p ≤ k + x.n → x.n ≤ k + x.p → nat_abs x.z ≤ k
-abs-by x k h l = omega (arith, x.same, about x.z)
+pub abs_by : (x : Diff) (k : ℕ) → x.p ≤ k + x.n → x.n ≤ k + x.p → nat_abs x.z ≤ k
+abs_by x k h l = omega (arith, x.same, about x.z)
 
-pub mag-by : (x : Diff) (k : ℕ) → x.p < k + x.n → x.n ≤ k + x.p → mag x.z < k
-mag-by x k h l = omega (arith, x.same, about x.z)
+pub mag_by : (x : Diff) (k : ℕ) → x.p < k + x.n → x.n ≤ k + x.p → mag x.z < k
+mag_by x k h l = omega (arith, x.same, about x.z)
 
 -- ---- from a fact on z to one on p and n
 
@@ -181,20 +181,20 @@ pub eq_of : (x y : Diff) → x.z ≡ y.z → x.p + y.n ≡ y.p + x.n
 eq_of x y e = omega (arith, x.same, y.same, ap up e, ap down e)
 
 pub le_of : (x y : Diff) → x.z ≤ℤ y.z → x.p + y.n ≤ y.p + x.n
-le_of x y h = omega (arith, x.same, y.same, parts-le x.z y.z h.le)
+le_of x y h = omega (arith, x.same, y.same, parts_le x.z y.z h.le)
 
 pub lt_of : (x y : Diff) → x.z <ℤ y.z → x.p + y.n < y.p + x.n
-lt_of x y h = omega (arith, x.same, y.same, parts-lt x.z y.z h.lt)
+lt_of x y h = omega (arith, x.same, y.same, parts_lt x.z y.z h.lt)
 
 pub record Near (p n k : ℕ) : Type 0 where
-  pub not-above : p ≤ k + n
-  pub not-below : n ≤ k + p
+  pub not_above : p ≤ k + n
+  pub not_below : n ≤ k + p
 
-pub abs-of : (x : Diff) (k : ℕ) → nat_abs x.z ≤ k → Near x.p x.n k
-abs-of x k h =
+pub abs_of : (x : Diff) (k : ℕ) → nat_abs x.z ≤ k → Near x.p x.n k
+abs_of x k h =
     record {
-      not-above = omega (arith, x.same, about x.z);
-      not-below = omega (arith, x.same, about x.z);
+      not_above = omega (arith, x.same, about x.z);
+      not_below = omega (arith, x.same, about x.z);
     }
 
 pub mag_of : (x : Diff) (k : ℕ) → mag x.z < k → (x.p < k + x.n) × (x.n ≤ k + x.p)
@@ -203,28 +203,28 @@ mag_of x k h = (omega (arith, x.same, about x.z), omega (arith, x.same, about x.
 -- ---- the ruleset `signed`
 
 -- `omega signed` reads hypotheses a ≡ b, a ≤ b, a < b on ℤ, and their tests, by itself where a and b are variables
-pub read-eq : (a b : ℤ) → a ≡ b → up a + down b ≡ up b + down a
-read-eq a b e = eq_of (var a) (var b) e
+pub read_eq : (a b : ℤ) → a ≡ b → up a + down b ≡ up b + down a
+read_eq a b e = eq_of (var a) (var b) e
 
-pub read-le : (a b : ℤ) → a ≤ℤ b → up a + down b ≤ up b + down a
-read-le a b h = le_of (var a) (var b) h
+pub read_le : (a b : ℤ) → a ≤ℤ b → up a + down b ≤ up b + down a
+read_le a b h = le_of (var a) (var b) h
 
-pub read-lt : (a b : ℤ) → a <ℤ b → up a + down b < up b + down a
-read-lt a b h = lt_of (var a) (var b) h
+pub read_lt : (a b : ℤ) → a <ℤ b → up a + down b < up b + down a
+read_lt a b h = lt_of (var a) (var b) h
 
 pub lt_z_yes : (a b : ℤ) → lt_z a b ≡ true → up a + down b < up b + down a
-lt_z_yes a b e = parts-lt a b (subst T (sym e) tt)
+lt_z_yes a b e = parts_lt a b (subst T (sym e) tt)
 
 pub le_z_yes : (a b : ℤ) → le_z a b ≡ true → up a + down b ≤ up b + down a
-le_z_yes a b e = parts-le a b (subst T (sym e) tt)
+le_z_yes a b e = parts_le a b (subst T (sym e) tt)
 
 pub lt_z_no : (a b : ℤ) → lt_z a b ≡ false → up b + down a ≤ up a + down b
 lt_z_no a b e = le_of (var b) (var a) (S.lt_z_no (subst (λ (t : Bool). T (not t)) (sym e) tt))
 
-pub leZ-no : (a b : ℤ) → le_z a b ≡ false → up b + down a < up a + down b
-leZ-no (pos a) (pos b) e = omega (arith, leb-false a b e)
-leZ-no (pos a) (negsuc b) e = omega arith
-leZ-no (negsuc a) (pos b) e = absurd (subst (λ (t : Bool). T t) e tt)
-leZ-no (negsuc a) (negsuc b) e = omega (arith, leb-false b a e)
+pub le_z_no : (a b : ℤ) → le_z a b ≡ false → up b + down a < up a + down b
+le_z_no (pos a) (pos b) e = omega (arith, leb-false a b e)
+le_z_no (pos a) (negsuc b) e = omega arith
+le_z_no (negsuc a) (pos b) e = absurd (subst (λ (t : Bool). T t) e tt)
+le_z_no (negsuc a) (negsuc b) e = omega (arith, leb-false b a e)
 
-pub ruleset signed = (arith, read-eq, read-le, read-lt, lt_z_yes, le_z_yes, lt_z_no, leZ-no)
+pub ruleset signed = (arith, read_eq, read_le, read_lt, lt_z_yes, le_z_yes, lt_z_no, le_z_no)

@@ -9,7 +9,7 @@ use lib.Dec.{eqb}
 use mathlib.Core.Bool.{Bool, true, false}
 use borrow.Author.Tests.{eqb-true, eqb-false}
 use Rattle.whole.specs.Sum.{sum, sumℕ}
-use Rattle.whole.proofs.Signed.{var, lit, ◌⊕◌, ◌⊖◌, ◌⊗◌, eq-by}
+use Rattle.whole.proofs.Signed.{var, lit, ◌⊕◌, ◌⊖◌, ◌⊗◌, eq_by}
 use Rattle.whole.proofs.Ring.{*ℤ-distribˡ-+ℤ}
 use Rattle.whole.proofs.Order.{+ℤ-mono-≤ℤ}
 use Rattle.whole.proofs.Magnitude.{abs-+ℤ, abs-*ℤ}
@@ -29,7 +29,7 @@ unfolding sum
 sum-+ zero f g = refl
 sum-+ (suc n) f g =
     ap (λ (z : ℤ). z +ℤ (f n +ℤ g n)) (sum-+ n f g) ∙
-    eq-by (var (sum n f) ⊕ var (sum n g) ⊕ (var (f n) ⊕ var (g n))) (var (sum n f) ⊕ var (f n) ⊕ (var (sum n g) ⊕ var (g n)))
+    eq_by (var (sum n f) ⊕ var (sum n g) ⊕ (var (f n) ⊕ var (g n))) (var (sum n f) ⊕ var (f n) ⊕ (var (sum n g) ⊕ var (g n)))
     (omega arith)
 
 pub sum-- : (n : ℕ) (f g : ℕ → ℤ) → sum n (λ i. f i -ℤ g i) ≡ sum n f -ℤ sum n g
@@ -37,7 +37,7 @@ unfolding sum
 sum-- zero f g = refl
 sum-- (suc n) f g =
     ap (λ (z : ℤ). z +ℤ (f n -ℤ g n)) (sum-- n f g) ∙
-    eq-by (var (sum n f) ⊖ var (sum n g) ⊕ (var (f n) ⊖ var (g n))) (var (sum n f) ⊕ var (f n) ⊖ (var (sum n g) ⊕ var (g n)))
+    eq_by (var (sum n f) ⊖ var (sum n g) ⊕ (var (f n) ⊖ var (g n))) (var (sum n f) ⊕ var (f n) ⊖ (var (sum n g) ⊕ var (g n)))
     (omega arith)
 
 pub sum-* : (n : ℕ) (c : ℤ) (f : ℕ → ℤ) → sum n (λ i. c *ℤ f i) ≡ c *ℤ sum n f
@@ -45,21 +45,21 @@ unfolding sum
 sum-* zero c f = sym (*ℤ-zero c)
 sum-* (suc n) c f = ap (λ (z : ℤ). z +ℤ c *ℤ f n) (sum-* n c f) ∙ sym (*ℤ-distribˡ-+ℤ c (sum n f) (f n))
 
-pub sum-none : (n : ℕ) {f : ℕ → ℤ} → ((i : ℕ) → i < n → f i ≡ pos 0) → sum n f ≡ pos 0
+pub sum_none : (n : ℕ) {f : ℕ → ℤ} → ((i : ℕ) → i < n → f i ≡ pos 0) → sum n f ≡ pos 0
 unfolding sum
-sum-none zero e = refl
-sum-none (suc n) {f} e = ap₂ ◌+ℤ◌ (sum-none n (λ i h. e i (below_suc h))) (e n (lt-suc_self n))
+sum_none zero e = refl
+sum_none (suc n) {f} e = ap₂ ◌+ℤ◌ (sum_none n (λ i h. e i (below_suc h))) (e n (lt-suc_self n))
 
 -- a sum with one term that counts
-pub sum-only : (n i : ℕ) {f : ℕ → ℤ} → i < n → ((k : ℕ) → k < n → (k ≡ i → ⊥) → f k ≡ pos 0) → sum n f ≡ f i
+pub sum_only : (n i : ℕ) {f : ℕ → ℤ} → i < n → ((k : ℕ) → k < n → (k ≡ i → ⊥) → f k ≡ pos 0) → sum n f ≡ f i
 unfolding sum
-sum-only zero i h e = absurd (omega arith)
-sum-only (suc n) i {f} h e = by (λ l. sum-only n i {f = f} l (λ k m. e k (below_suc m))) (eqb i n) refl
+sum_only zero i h e = absurd (omega arith)
+sum_only (suc n) i {f} h e = by (λ l. sum_only n i {f = f} l (λ k m. e k (below_suc m))) (eqb i n) refl
   where
     by : (i < n → sum n f ≡ f i) → (t : Bool) → eqb i n ≡ t → sum n f +ℤ f n ≡ f i
     by rest true t =
         let i-is : i ≡ n = eqb-true i n t in
-        ap (λ (z : ℤ). z +ℤ f n) (sum-none n (λ k l. e k (below_suc l) (λ q. omega arith))) ∙ +ℤ_idl (f n) ∙ ap f (sym i-is)
+        ap (λ (z : ℤ). z +ℤ f n) (sum_none n (λ k l. e k (below_suc l) (λ q. omega arith))) ∙ +ℤ_idl (f n) ∙ ap f (sym i-is)
     by rest false t =
         let other : i ≡ n → ⊥ = eqb-false i n t in
         ap₂ ◌+ℤ◌ (rest (omega arith)) (e n (lt-suc_self n) (λ q. other (sym q))) ∙
@@ -94,9 +94,9 @@ abs-sum zero f = le_refl 0
 abs-sum (suc n) f = le_trans (abs-+ℤ (sum n f) (f n)) (add-le-add (abs-sum n f) (le_refl (nat_abs (f n))))
 
 -- |sum of c·x| is at most (sum of |c|)·X where each |x| is at most X
-pub abs-sum-* : (n : ℕ) (c x : ℕ → ℤ) (X : ℕ) → ((i : ℕ) → i < n → nat_abs (x i) ≤ X) →
+pub abs_sum-* : (n : ℕ) (c x : ℕ → ℤ) (X : ℕ) → ((i : ℕ) → i < n → nat_abs (x i) ≤ X) →
     nat_abs (sum n (λ i. c i *ℤ x i)) ≤ sumℕ n (λ i. nat_abs (c i)) * X
-abs-sum-* n c x X h =
+abs_sum-* n c x X h =
     le_trans (abs-sum n (λ i. c i *ℤ x i))
     (rw (← (sumℕ-*ʳ n (λ i. nat_abs (c i)) X)) (sumℕ-mono n (λ i k. rw (abs-*ℤ (c i) (x i)) (mul-le-mul_left (nat_abs (c i)) (h i k)))))
 
@@ -108,11 +108,11 @@ pub abel : (n : ℕ) (g a : ℕ → ℤ) →
     g n *ℤ a (suc n) -ℤ g 0 *ℤ a 0 +ℤ sum n (λ i. (g i -ℤ g (suc i)) *ℤ a (suc i))
 unfolding sum
 abel zero g a =
-    eq-by (lit 0 ⊕ var (g 0) ⊗ (var (a 1) ⊖ var (a 0))) (var (g 0) ⊗ var (a 1) ⊖ var (g 0) ⊗ var (a 0) ⊕ lit 0) (omega arith)
+    eq_by (lit 0 ⊕ var (g 0) ⊗ (var (a 1) ⊖ var (a 0))) (var (g 0) ⊗ var (a 1) ⊖ var (g 0) ⊗ var (a 0) ⊕ lit 0) (omega arith)
 abel (suc n) g a =
     let s = sum n (λ i. (g i -ℤ g (suc i)) *ℤ a (suc i)) in
     ap (λ (z : ℤ). z +ℤ g (suc n) *ℤ (a (suc (suc n)) -ℤ a (suc n))) (abel n g a) ∙
-    eq-by
+    eq_by
     (var (g n) ⊗ var (a (suc n)) ⊖ var (g 0 *ℤ a 0) ⊕ var s ⊕ var (g (suc n)) ⊗ (var (a (suc (suc n))) ⊖ var (a (suc n))))
     (var (g (suc n)) ⊗ var (a (suc (suc n))) ⊖ var (g 0 *ℤ a 0) ⊕ (var s ⊕ (var (g n) ⊖ var (g (suc n))) ⊗ var (a (suc n))))
     (omega arith)

@@ -5,14 +5,14 @@ use native.Mathlib.Omega.{arith}
 use mathlib.Core.List.{◌++◌}
 use lib.ListN.{length, drop, length-append, length-take}
 use lib.Seq.{length-take-le}
-use Rattle.arguments.proofs.NextArgument.{front-few}
+use Rattle.arguments.proofs.NextArgument.{front_few}
 use borrow.Author.Rules.{rules}
 use Rattle.eqwave.proofs.main.Statement.{statement}
 use Rattle.eqwave.proofs.main.Tie as tie
 
 -- the front has room for what is read
 room : (c : tie.After-front-wanted) → c.front-wanted.result ≤ length c.before.before.before.before.buffer.result
-room c = omega (arith, c.front-wanted.ensures, front-few c.before.before.take.result, c.before.before.before.before.buffer.ensures)
+room c = omega (arith, c.front-wanted.ensures, front_few c.before.before.take.result, c.before.before.before.before.buffer.ensures)
 
 array-borrow-prefix-front : tie.Need-array-borrow-prefix-front
 array-borrow-prefix-front c = room c
@@ -30,7 +30,7 @@ begin-requires c κs =
     let t = w.before.before in
     let front = f.fill.new.0 ++ drop w.front-wanted.result t.before.before.buffer.result in
     record {
-      all-taken = t.take.ensures;
+      all_taken = t.take.ensures;
       few =
           omega (
             arith,
@@ -39,7 +39,7 @@ begin-requires c κs =
             f.fill.auto.0,
             length-take w.front-wanted.result t.before.before.buffer.result,
             w.front-wanted.ensures,
-            front-few t.take.result,
+            front_few t.take.result,
           );
     }
 

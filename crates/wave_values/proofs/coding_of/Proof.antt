@@ -1,12 +1,12 @@
--- `coding_of` meets its contract: the tests of `codingOf` in turn. Assumes nothing.
+-- `coding_of` meets its contract: the tests of `coding_of` in turn. Assumes nothing.
 use borrow.Author.Rules.{rules}
 use Rattle.fields.proofs.ByTest.{picking}
-use Rattle.wave_values.specs.Values.{codingOf}
+use Rattle.wave_values.specs.Values.{coding_of}
 use Rattle.wave_values.proofs.coding_of.Statement.{statement}
 use Rattle.wave_values.proofs.coding_of.Tie as tie
 
 pub coding-of-spec : {M : Type 1} → statement M
-unfolding codingOf
+unfolding coding_of
 coding-of-spec =
     tie.close
     (tie.spec

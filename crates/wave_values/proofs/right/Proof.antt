@@ -2,7 +2,7 @@
 use borrow.Author.Rules.{rules}
 use Rattle.fields.proofs.ByTest.{anding}
 use Rattle.wave_values.specs.Values.{right}
-use Rattle.wave_values.proofs.RightValues.{rate-small, product-fits, by-frame}
+use Rattle.wave_values.proofs.RightValues.{rate_small, product_fits, by_frame}
 use Rattle.wave_values.proofs.right.Statement.{statement}
 use Rattle.wave_values.proofs.right.Tie as tie
 
@@ -15,5 +15,5 @@ right-spec =
     (λ c. search anding depth 12)
     (λ c κs. search rules)
     (λ c. search anding depth 12)
-    (λ c. search (product-fits, rate-small, anding) depth 12)
-    (λ c. search (by-frame, anding) depth 12))
+    (λ c. search (product_fits, rate_small, anding) depth 12)
+    (λ c. search (by_frame, anding) depth 12))

@@ -5,7 +5,7 @@ use native.Mathlib.Omega.{arith}
 use lib.ListN.{length, drop}
 use mir.Syntax.{w32}
 use mir.Val.{to_z}
-use Rattle.answers.specs.Range.{firstOutside}
+use Rattle.answers.specs.Range.{first_outside}
 use Rattle.answers.proofs.Ranges.{stops, goes_on, ends}
 use Rattle.answers.proofs.range.first_outside.Statement.{statement}
 use Rattle.answers.proofs.range.first_outside.Tie as tie
@@ -13,7 +13,7 @@ use Rattle.answers.proofs.range.first_outside.Tie as tie
 -- the first outside is i places on from where the rest has it
 abbrev invariant-loop : tie.invariant-loop
 invariant-loop lo hi s i₀ i =
-    (i ≤ length s) × (firstOutside (to_z w32 lo) (to_z w32 hi) s ≡ i + firstOutside (to_z w32 lo) (to_z w32 hi) (drop i s))
+    (i ≤ length s) × (first_outside (to_z w32 lo) (to_z w32 hi) s ≡ i + first_outside (to_z w32 lo) (to_z w32 hi) (drop i s))
 
 abbrev decreases-loop : tie.decreases-loop
 decreases-loop lo hi s i₀ i = length s - i

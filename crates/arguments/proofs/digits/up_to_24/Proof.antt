@@ -3,26 +3,26 @@ use mathlib.Core.Path.{◌≡◌, refl, sym, ◌∙◌}
 use mathlib.Core.Bool.{true}
 use native.Mathlib.Omega.{arith}
 use borrow.Author.Tests.{not-true, not-false}
-use Rattle.arguments.specs.Argument.{isDigit}
-use Rattle.arguments.proofs.ArgumentText.{digit, tens-wrong, ones-wrong, small, large}
+use Rattle.arguments.specs.Argument.{is_digit}
+use Rattle.arguments.proofs.ArgumentText.{digit, tens_wrong, ones_wrong, small, large}
 use borrow.Author.Rules.{rules}
 use Rattle.arguments.proofs.digits.up_to_24.Statement.{statement}
 use Rattle.arguments.proofs.digits.up_to_24.Tie as tie
 
 -- both bytes are digits
-tens : (c : tie.Else1) → isDigit c.before.before.args.tens ≡ true
+tens : (c : tie.Else1) → is_digit c.before.before.args.tens ≡ true
 tens c = sym c.before.is_digit.ensures ∙ not-false c.before.is_digit.result c.if1.false
 
-ones : (c : tie.Else2) → isDigit c.before.before.before.before.args.ones ≡ true
+ones : (c : tie.Else2) → is_digit c.before.before.before.before.args.ones ≡ true
 ones c = sym c.before.is-digit2.ensures ∙ not-false c.before.is-digit2.result c.if2.false
 
 returns : tie.Need-returns
-returns c = tens-wrong c.before.before.args.tens c.before.before.args.ones (sym c.before.is_digit.ensures ∙ not-true c.before.is_digit.result c.if1.true)
+returns c = tens_wrong c.before.before.args.tens c.before.before.args.ones (sym c.before.is_digit.ensures ∙ not-true c.before.is_digit.result c.if1.true)
 
 returns-2 : tie.Need-returns-2
 returns-2 c =
     let a = c.before.before.before.before.args in
-    ones-wrong a.tens a.ones (tens c.before.before) (sym c.before.is-digit2.ensures ∙ not-true c.before.is-digit2.result c.if2.true)
+    ones_wrong a.tens a.ones (tens c.before.before) (sym c.before.is-digit2.ensures ∙ not-true c.before.is-digit2.result c.if2.true)
 
 sub-n : tie.Need-overflow-sub-n
 sub-n c = omega (arith, digit c.before.before.before.before.args.tens (tens c.before.before))

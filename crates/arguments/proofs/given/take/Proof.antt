@@ -4,7 +4,7 @@ use Prim.Native.Nat.{◌-◌}
 use native.Mathlib.Omega.{arith}
 use lib.ListN.{length}
 use Rattle.arguments.specs.Given.{AllTaken}
-use Rattle.arguments.proofs.TakenInTurn.{none-taken, one_more}
+use Rattle.arguments.proofs.TakenInTurn.{none_taken, one_more}
 use Rattle.arguments.proofs.given.take.Statement.{statement}
 use Rattle.arguments.proofs.given.take.Tie as tie
 
@@ -23,5 +23,5 @@ loop-again c =
 pub take_spec : {M : Type 1} → statement M
 take_spec =
     tie.close
-    (tie.spec invariant-loop decreases-loop (λ c κs. tt) (λ c. (refl, none-taken _)) (λ c κs. tt) (λ c. omega arith) (λ c. omega arith) loop-again
+    (tie.spec invariant-loop decreases-loop (λ c κs. tt) (λ c. (refl, none_taken _)) (λ c κs. tt) (λ c. omega arith) (λ c. omega arith) loop-again
     (λ c. c.before.loop.invariant.0) (λ c. c.before.loop.invariant.1))

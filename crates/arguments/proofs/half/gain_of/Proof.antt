@@ -6,14 +6,14 @@ use mir.Facts.{to_z-of_z}
 use Rattle.gain.proofs.HalfDecibels.{half_at}
 use Rattle.arguments.specs.declared.half.Argument.TheVariants.{Gain}
 use Rattle.arguments.specs.declared.half.Place.TheVariants as place
-use Rattle.arguments.specs.Argument.{placeOf}
-use Rattle.arguments.proofs.ArgumentGain.{inside, no-argument, argument-gain, argument-small, command-refuses}
+use Rattle.arguments.specs.Argument.{place_of}
+use Rattle.arguments.proofs.ArgumentGain.{inside, no_argument, argument_gain, argument_small, command_refuses}
 use borrow.Author.Rules.{rules}
 use Rattle.arguments.proofs.half.gain_of.Statement.{statement}
 use Rattle.arguments.proofs.half.gain_of.Tie as tie
 
 -- the place that the text stands for
-placed : (c : tie.After-known-told) → place.At c.before.i.given.0.0 ≡ placeOf c.before.before.before.before.before.args.text.now
+placed : (c : tie.After-known-told) → place.At c.before.i.given.0.0 ≡ place_of c.before.before.before.before.before.args.text.now
 placed c = sym c.before.i.given.1 ∙ c.before.before.before.place_of.ensures
 
 -- the float has its value
@@ -23,13 +23,13 @@ valued c = half_at c.half-decibel.result _ c.half-decibel.ensures (inside _ _ (p
 returns : tie.Need-returns
 returns c =
     let call = c.before.before in
-    no-argument call.before.before.args.text.now (sym c.enum_told.given.1 ∙ call.place_of.ensures)
+    no_argument call.before.before.args.text.now (sym c.enum_told.given.1 ∙ call.place_of.ensures)
 
 returns-2 : tie.Need-returns-2
 returns-2 c =
     let half = c.before.before in
     let place = half.before in
-    command-refuses place.before.before.before.before.before.args.text.now place.before.i.given.0.0 (placed place) half.half-decibel.result
+    command_refuses place.before.before.before.before.before.args.text.now place.before.i.given.0.0 (placed place) half.half-decibel.result
     (valued half) c.before.gain.result c.match2.keys2 c.before.gain.ensures
 
 returns-3 : tie.Need-returns-3
@@ -37,9 +37,9 @@ returns-3 c =
     let call = c.before.before.before in
     let half = call.before in
     let place = half.before in
-    let whole = argument-gain place.before.before.before.before.before.args.text.now place.before.i.given.0.0 (placed place) half.half-decibel.result
+    let whole = argument_gain place.before.before.before.before.before.args.text.now place.before.i.given.0.0 (placed place) half.half-decibel.result
     (valued half) c.before.g.given.0.0 (sym c.before.g.given.1 ∙ call.gain.ensures) in
-    ap Gain (to_z-of_z (record { sfits = argument-small place.before.before.before.before.before.args.text.now c.before.g.given.0.0 whole }))
+    ap Gain (to_z-of_z (record { sfits = argument_small place.before.before.before.before.before.args.text.now c.before.g.given.0.0 whole }))
     ∙ whole
 
 pub gain-of-spec : {M : Type 1} → statement M

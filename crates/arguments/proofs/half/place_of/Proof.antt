@@ -4,7 +4,7 @@ use native.Mathlib.Omega.{arith}
 use Prim.Native.Nat.{◌-◌}
 use lib.ListN.{length, take, drop}
 use Rattle.arguments.specs.Argument.{above, below}
-use Rattle.arguments.proofs.ArgumentText.{nothing, minus, plain, value-small}
+use Rattle.arguments.proofs.ArgumentText.{nothing, minus, plain, value_small}
 use borrow.Author.Rules.{rules}
 use Rattle.arguments.proofs.half.place_of.Statement.{statement}
 use Rattle.arguments.proofs.half.place_of.Tie as tie
@@ -22,7 +22,7 @@ sub-t13 : tie.Need-overflow-sub-t13
 sub-t13 c =
     let call = c.before.before.before in
     let s = call.before.before.before.before.before.before.args.text.now in
-    value-small (take (length s - 1) (drop 1 s)) c.before.n.given.0.0 (sym c.before.n.given.1 ∙ call.digits_of.ensures)
+    value_small (take (length s - 1) (drop 1 s)) c.before.n.given.0.0 (sym c.before.n.given.1 ∙ call.digits_of.ensures)
 
 returns-3 : tie.Need-returns-3
 returns-3 c =
@@ -39,7 +39,7 @@ returns-4 c =
 add-t7 : tie.Need-overflow-add-t7
 add-t7 c =
     let call = c.before.before.before in
-    omega (arith, value-small call.before.before.before.before.before.args.text.now c.before.n2.given.0.0 (sym c.before.n2.given.1 ∙ call.digits-of2.ensures))
+    omega (arith, value_small call.before.before.before.before.before.args.text.now c.before.n2.given.0.0 (sym c.before.n2.given.1 ∙ call.digits-of2.ensures))
 
 returns-5 : tie.Need-returns-5
 returns-5 c =

@@ -12,20 +12,20 @@ use lib.ListN.{length}
 use lib.IntN.{ℤ}
 use mir.Syntax.{w64}
 use mir.Val.{Fits}
-use Rattle.frames.proofs.Laws.{whole-frames}
-use Rattle.lines.specs.Rows.{rowPlaces, wrapped}
-use Rattle.tree.specs.Signal.{gainOf}
-use Rattle.weighing.proofs.Counting.{below-starts}
-use Rattle.weighing.proofs.GainSums.{under-gains}
+use Rattle.frames.proofs.Laws.{whole_frames_lem}
+use Rattle.lines.specs.Rows.{row_places, wrapped}
+use Rattle.tree.specs.Signal.{gain_of}
+use Rattle.weighing.proofs.Counting.{below_starts}
+use Rattle.weighing.proofs.GainSums.{under_gains}
 use Rattle.block_rows.specs.Helpers.{Asked}
-use Rattle.block_rows.proofs.Running.{Going, going-starts, row-region, ends-inside, in-length, out-length, going_on, going-ends}
+use Rattle.block_rows.proofs.Running.{Going, going_starts, row_region, ends_inside, in_length, out_length, going_on, going_ends}
 use Rattle.block_rows.proofs.run.each_row.Statement.{statement}
 use Rattle.block_rows.proofs.run.each_row.Tie as tie
 
 abbrev invariant-loop : tie.invariant-loop
 invariant-loop lines₀ size from bands gains others channels s input rows₀ output₀ second₀ weights twice frames at₀ i₀ lines rows output second at i =
-    Going bands size from channels s frames (gainOf gains) lines₀ input rows₀ output₀ lines rows output at i ×
-    (Asked others → Going bands size from channels s frames (gainOf others) lines₀ input rows₀ second₀ lines rows second at i) ×
+    Going bands size from channels s frames (gain_of gains) lines₀ input rows₀ output₀ lines rows output at i ×
+    (Asked others → Going bands size from channels s frames (gain_of others) lines₀ input rows₀ second₀ lines rows second at i) ×
     (length second ≡ length second₀)
 
 abbrev decreases-loop : tie.decreases-loop
@@ -34,14 +34,14 @@ decreases-loop lines₀ size from bands gains others channels s input rows₀ ou
 
 -- the input is its frames
 whole : (c : tie.After-frames-in invariant-loop decreases-loop) → let a = c.before.before.args in length a.input.now ≡ a.channels * c.frames-in.result
-whole c = let s = c.before.before in whole-frames (length s.args.input.now) s.args.channels s.requires.7 c.frames-in.ensures
+whole c = let s = c.before.before in whole_frames_lem (length s.args.input.now) s.args.channels s.requires.7 c.frames-in.ensures
 
 loop-holds : tie.Need-loop-init invariant-loop decreases-loop
 loop-holds c =
     let s = c.before.before in
     let a = s.args in
-    let starts : (g : ℕ → ℤ) (output : List ℤ) → _ = λ g output. going-starts a.bands a.size a.from a.channels a.s c.frames-in.result g a.lines.now a.input.now a.rows.now output s.requires.1 in
-    (starts (gainOf a.gains.now) a.output.now, λ _. starts (gainOf a.others.now) a.second.now, refl)
+    let starts : (g : ℕ → ℤ) (output : List ℤ) → _ = λ g output. going_starts a.bands a.size a.from a.channels a.s c.frames-in.result g a.lines.now a.input.now a.rows.now output s.requires.1 in
+    (starts (gain_of a.gains.now) a.output.now, λ _. starts (gain_of a.others.now) a.second.now, refl)
 
 -- the row's frames stand in the block
 inside : (c : tie.After-row-length invariant-loop decreases-loop) → let s = c.before.before.before.before.before in
@@ -51,7 +51,7 @@ inside : (c : tie.After-row-length invariant-loop decreases-loop) → let s = c.
 inside c =
     let s = c.before.before.before.before.before in
     let l = c.before.before.loop in
-    ends-inside l.invariant.0 s.requires.0 s.requires.4 (whole c.before.before.before) s.requires.6 s.requires.8 c.row-length.result c.row-length.ensures.2
+    ends_inside l.invariant.0 s.requires.0 s.requires.4 (whole c.before.before.before) s.requires.6 s.requires.8 c.row-length.result c.row-length.ensures.2
 
 -- .. and the bytes before it can be counted
 scaled : (c : tie.After-row-length invariant-loop decreases-loop) → Fits w64 (c.before.before.before.before.before.args.channels * c.before.before.loop.i * 4)
@@ -59,7 +59,7 @@ scaled c = let h = inside c in search rules
 
 -- what the weighing asks of the rows
 ready : (c : tie.After-side-row invariant-loop decreases-loop) → let s = c.before.before.before.before.before.before.before.before.before in
-    (1 ≤ s.args.bands) × (s.args.bands ≤ 10) × (rowPlaces * s.args.bands ≤ length c.side-row.new.1.1.1.1.1.1.1.1.0)
+    (1 ≤ s.args.bands) × (s.args.bands ≤ 10) × (row_places * s.args.bands ≤ length c.side-row.new.1.1.1.1.1.1.1.1.0)
 ready c =
     let s = c.before.before.before.before.before.before.before.before.before in
     let l = c.before.before.before.before.before.before.loop in
@@ -81,9 +81,9 @@ side-row-requires c κs =
     let l = r.before.before.loop in
     let n = r.row-length.result in
     let short = r.row-length.ensures in (
-      row-region l.invariant.0 s.requires.0 s.requires.4 (whole r.before.before.before) s.requires.6 s.requires.8 n short.1 short.3,
+      row_region l.invariant.0 s.requires.0 s.requires.4 (whole r.before.before.before) s.requires.6 s.requires.8 n short.1 short.3,
       s.requires.4,
-      in-length l.invariant.0 s.requires.0 s.requires.4 (whole r.before.before.before) s.requires.6 s.requires.8 n short.2,
+      in_length l.invariant.0 s.requires.0 s.requires.4 (whole r.before.before.before) s.requires.6 s.requires.8 n short.2,
       s.requires.5,
     )
 
@@ -91,7 +91,7 @@ part-part-end : tie.Need-slice-bounds-part-end invariant-loop decreases-loop
 part-part-end c =
     let r = c.before.before.before.before.before.before in
     let s = r.before.before.before.before.before in
-    rw (r.before.before.loop.invariant.0.same-output, s.requires.6) (inside r).1
+    rw (r.before.before.loop.invariant.0.same_output, s.requires.6) (inside r).1
 
 weigh-rows-requires : tie.Need-weigh-rows-requires invariant-loop decreases-loop
 weigh-rows-requires c κs =
@@ -109,9 +109,9 @@ weigh-rows-requires c κs =
       differ.ensures.1,
       s.requires.2.counted,
       differ.ensures.2,
-      below-starts (length s.args.gains.now) differ.result,
+      below_starts (length s.args.gains.now) differ.result,
       s.requires.4,
-      out-length l.invariant.0 s.requires.0 s.requires.4 (whole r.before.before.before) s.requires.6 s.requires.8 n short.2,
+      out_length l.invariant.0 s.requires.0 s.requires.4 (whole r.before.before.before) s.requires.6 s.requires.8 n short.2,
     )
 
 -- a second weighing is asked for where there are gains for it
@@ -139,7 +139,7 @@ weigh-with-requires c κs =
       short.1,
       (ready d).2,
       s.requires.4,
-      out-length (l.invariant.1 twice) s.requires.0 s.requires.4 (whole r.before.before.before) (s.requires.3.alike twice) s.requires.8 n short.2,
+      out_length (l.invariant.1 twice) s.requires.0 s.requires.4 (whole r.before.before.before) (s.requires.3.alike twice) s.requires.8 n short.2,
     )
 
 add-wrapped : tie.Need-overflow-add-wrapped invariant-loop decreases-loop
@@ -162,7 +162,7 @@ second-on : (c : tie.Joined1 invariant-loop decreases-loop) →
     let a = s.args in
     let l = r.before.before.loop in
     let n = r.row-length.result in
-    (Asked a.others.now → Going a.bands a.size a.from a.channels a.s r.before.before.before.frames-in.result (gainOf a.others.now) a.lines.now a.input.now a.rows.now a.second.now
+    (Asked a.others.now → Going a.bands a.size a.from a.channels a.s r.before.before.before.frames-in.result (gain_of a.others.now) a.lines.now a.input.now a.rows.now a.second.now
     d.side-row.new.0 d.side-row.new.1.1.1.1.1.1.1.1.0 c.if1.second (wrapped a.size (l.at + n)) (l.i + n)) ×
     (length c.if1.second ≡ length a.second.now)
 second-on c =
@@ -199,7 +199,7 @@ loop-again c =
     let short = r.row-length.ensures in
     let row = d.side-row in
     let weighed = c.before.before.before.weigh-rows in
-    let under = under-gains s.args.gains.now s.requires.2.counted r.before.before.before.before.differences.ensures.0 weighed.ensures in
+    let under = under_gains s.args.gains.now s.requires.2.counted r.before.before.before.before.differences.ensures.0 weighed.ensures in
     rw c.wrapped.ensures (
       going_on l.invariant.0 s.requires.0 s.requires.4 (whole r.before.before.before) s.requires.6 s.requires.8 n row.new.0 row.new.1.1.1.1.1.1.1.1.0
           weighed.new.1.1.1.1.1.1.1.1.0 short.2 short.3 row.auto.0 row.auto.1.1.1.1.1.1.1.1.0 weighed.auto.1.1.1.1.1.1.1.1.0 row.ensures under,
@@ -213,8 +213,8 @@ returns c =
     let l = c.before.loop in
     let w = whole c.before.before in
     record {
-      first = rw c.before.before.frames-in.ensures at (going-ends l.invariant.0 s.requires.0 s.requires.4 w s.requires.6 s.requires.8 c.loop-test.false);
-      again = λ asked. rw c.before.before.frames-in.ensures at (going-ends (l.invariant.1 asked) s.requires.0 s.requires.4 w (s.requires.3.alike asked) s.requires.8 c.loop-test.false);
+      first = rw c.before.before.frames-in.ensures at (going_ends l.invariant.0 s.requires.0 s.requires.4 w s.requires.6 s.requires.8 c.loop-test.false);
+      again = λ asked. rw c.before.before.frames-in.ensures at (going_ends (l.invariant.1 asked) s.requires.0 s.requires.4 w (s.requires.3.alike asked) s.requires.8 c.loop-test.false);
     }
 
 pub each-row-spec : {M : Type 1} → statement M
@@ -253,6 +253,6 @@ each-row-spec =
     loop-again
     (λ c. c.before.loop.invariant.0.same_lines)
     (λ c. c.before.loop.invariant.0.same_rows)
-    (λ c. c.before.loop.invariant.0.same-output)
+    (λ c. c.before.loop.invariant.0.same_output)
     (λ c. c.before.loop.invariant.2)
     returns)

@@ -5,14 +5,14 @@ use native.Mathlib.Omega.{arith}
 use borrow.Author.Rules.{rules}
 use mathlib.Core.List.{◌++◌}
 use lib.ListN.{length, drop}
-use Rattle.tree.specs.Signal.{gainOf}
-use Rattle.block_sides.proofs.BothSides.{with-output, left-inside, left-length, left-region, long, right-lent, right-region, one_side, two-sides}
+use Rattle.tree.specs.Signal.{gain_of}
+use Rattle.block_sides.proofs.BothSides.{with_output, left_inside, left_length, left_region, long, right_lent, right_region, one_side, two_sides}
 use Rattle.block_sides.proofs.run.each_side.Statement.{statement}
 use Rattle.block_sides.proofs.run.each_side.Tie as tie
 
 -- the left places stand among all
 inside : (c : tie.Start) → (c.args.bands - 1) * c.args.size ≤ length c.args.lines.now
-inside c = left-inside c.requires.0
+inside c = left_inside c.requires.0
 
 mul-places : tie.Need-overflow-mul-places
 mul-places c = let h = inside c in search rules
@@ -21,7 +21,7 @@ each-row-requires : tie.Need-each-row-requires
 each-row-requires c κs =
     let s = c.before.before.before.before in
     let a = s.requires.0 in
-    (left-region a, s.requires.1, s.requires.2, s.requires.3, a.some, a.few, a.alike, a.frames, s.requires.4)
+    (left_region a, s.requires.1, s.requires.2, s.requires.3, a.some, a.few, a.alike, a.frames, s.requires.4)
 
 mul-each-row : tie.Need-overflow-mul-each-row
 mul-each-row c = let h = inside c.before.before.before.before.before.before.before.before.before.before in search rules
@@ -38,7 +38,7 @@ each-row-requires-2 c κs =
     let left = c.before.before.before.before.before.before.before.before.before.each_row in
     let two = c.before.before.before.before.if1.true in
     let more = s.requires.3 in (
-      right-region a left.new.0 left.auto.0 two,
+      right_region a left.new.0 left.auto.0 two,
       s.requires.1,
       s.requires.2,
       record { allowed = more.allowed; alike = λ asked. left.auto.1.1.1.1.1.1.1.1.1.1.1.0 ∙ more.alike asked },
@@ -56,12 +56,12 @@ returns c =
     let left = c.before.before.before.before.before.before.before.before.before.before.before.before.before.before.each_row in
     let right = c.before.before.before.before.each-row2 in
     let two = c.before.before.before.before.before.before.before.before.before.if1.true in
-    let lz = right.auto.0 ∙ ap length (right-lent a left.new.0 left.auto.0 two) in
+    let lz = right.auto.0 ∙ ap length (right_lent a left.new.0 left.auto.0 two) in
     record {
       first =
-          two-sides a s.args.from (gainOf s.args.gains.now) right.new.0 right.new.1.1.1.1.1.1.1.1.1.1.0 two left.auto.0 lz (right.auto.1.1.1.1.1.1.1.1.1.1.0 ∙ left.auto.1.1.1.1.1.1.1.1.1.1.0) left.ensures.first right.ensures.first;
+          two_sides a s.args.from (gain_of s.args.gains.now) right.new.0 right.new.1.1.1.1.1.1.1.1.1.1.0 two left.auto.0 lz (right.auto.1.1.1.1.1.1.1.1.1.1.0 ∙ left.auto.1.1.1.1.1.1.1.1.1.1.0) left.ensures.first right.ensures.first;
       again = λ asked.
-          two-sides (with-output s.args.second.now (s.requires.3.alike asked) a) s.args.from (gainOf s.args.others.now) right.new.0 right.new.1.1.1.1.1.1.1.1.1.1.1.0 two left.auto.0 lz (right.auto.1.1.1.1.1.1.1.1.1.1.1.0 ∙ left.auto.1.1.1.1.1.1.1.1.1.1.1.0)
+          two_sides (with_output s.args.second.now (s.requires.3.alike asked) a) s.args.from (gain_of s.args.others.now) right.new.0 right.new.1.1.1.1.1.1.1.1.1.1.1.0 two left.auto.0 lz (right.auto.1.1.1.1.1.1.1.1.1.1.1.0 ∙ left.auto.1.1.1.1.1.1.1.1.1.1.1.0)
           (left.ensures.again asked) (right.ensures.again asked);
     }
 
@@ -70,8 +70,8 @@ returns-2 c =
     let s = c.before.before.before.before.before.before.before.before.before.before in
     let left = c.before.before.before.before.before.each_row in
     record {
-      first = one_side s.requires.0 s.args.from (gainOf s.args.gains.now) c.if1.false left.auto.1.1.1.1.1.1.1.1.1.1.0 left.ensures.first;
-      again = λ asked. one_side (with-output s.args.second.now (s.requires.3.alike asked) s.requires.0) s.args.from (gainOf s.args.others.now) c.if1.false left.auto.1.1.1.1.1.1.1.1.1.1.1.0 (left.ensures.again asked);
+      first = one_side s.requires.0 s.args.from (gain_of s.args.gains.now) c.if1.false left.auto.1.1.1.1.1.1.1.1.1.1.0 left.ensures.first;
+      again = λ asked. one_side (with_output s.args.second.now (s.requires.3.alike asked) s.requires.0) s.args.from (gain_of s.args.others.now) c.if1.false left.auto.1.1.1.1.1.1.1.1.1.1.1.0 (left.ensures.again asked);
     }
 
 pub each-side-spec : {M : Type 1} → statement M
@@ -81,7 +81,7 @@ each-side-spec =
     (λ c. search rules)
     mul-places
     inside
-    (λ c. sym (left-length c.before.requires.0))
+    (λ c. sym (left_length c.before.requires.0))
     each-row-requires
     mul-each-row
     (λ c. begin c.before.before.before.before.before)

@@ -3,11 +3,11 @@ use mathlib.Core.Path.{sym, ap, subst, ◌∙◌}
 use borrow.Author.Rules.{rules}
 use Rattle.answers.specs.Answer.{Answer}
 use Rattle.wave.specs.Walk.{Found}
-use Rattle.parts.specs.Found.{ofFound}
-use Rattle.capi.specs.Found.{foundAfter}
+use Rattle.parts.specs.Found.{of_found}
+use Rattle.capi.specs.Found.{found_after}
 use Rattle.capi.specs.Private.{StartFits}
-use Rattle.encoding.proofs.Encoding.{count_fits, count-is}
-use Rattle.capi.proofs.Reading.{read-counted, start_fits}
+use Rattle.encoding.proofs.Encoding.{count_fits, count_is}
+use Rattle.capi.proofs.Reading.{read_counted, start_fits}
 use Rattle.capi.proofs.headers.oeq_wave_read.Statement.{statement}
 use Rattle.capi.proofs.headers.oeq_wave_read.Tie as tie
 
@@ -17,14 +17,14 @@ store-requires c κs = subst StartFits (sym c.before.read.ensures) (start_fits c
 count-requires : tie.Need-count-requires
 count-requires c κs =
     let call = c.before.before.before in
-    count_fits (ap ofFound call.read.ensures) (read-counted call.before.before.args.front.now) c.read-parts.ensures
+    count_fits (ap of_found call.read.ensures) (read_counted call.before.before.args.front.now) c.read_parts.ensures
 
 returns : tie.Need-returns
 returns c =
     let call = c.before.before.before.before in
     let a = call.before.before.args in (
-      count-is (ap ofFound call.read.ensures) (read-counted a.front.now) c.before.read-parts.ensures c.count.ensures c.count.type-inv,
-      c.before.before.store.ensures ∙ ap (λ (f : Answer Found). foundAfter f a.found.now) call.read.ensures,
+      count_is (ap of_found call.read.ensures) (read_counted a.front.now) c.before.read_parts.ensures c.count.ensures c.count.type-inv,
+      c.before.before.store.ensures ∙ ap (λ (f : Answer Found). found_after f a.found.now) call.read.ensures,
     )
 
 pub oeq-wave-read-spec : {M : Type 1} → statement M

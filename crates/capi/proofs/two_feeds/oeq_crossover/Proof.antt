@@ -1,10 +1,10 @@
 -- `two_feeds::oeq_crossover` meets its contract: the library call's answer, encoded, and what it leaves. Assumes nothing.
 use borrow.Author.Rules.{rules}
 use mir.Facts.{to_z-of_z}
-use Rattle.crossover.specs.Answer.{crossAnswer}
+use Rattle.crossover.specs.Answer.{cross_answer}
 use Rattle.crossover.specs.Cross.{cross_of}
-use Rattle.encoding.proofs.Encoding.{lent_fits, lent-returned}
-use Rattle.capi.proofs.Returnable.{cross-counted}
+use Rattle.encoding.proofs.Encoding.{lent_fits, lent_returned}
+use Rattle.capi.proofs.Returnable.{cross_counted}
 use Rattle.capi.proofs.two_feeds.oeq_crossover.Statement.{statement}
 use Rattle.capi.proofs.two_feeds.oeq_crossover.Tie as tie
 
@@ -14,8 +14,8 @@ returns c =
     let s = call.before.before.before.before in
     let a = s.args in
     let o = cross_of a.memory.now a.gains.now a.split a.input.now a.bass.now a.horn.now in
-    lent-returned crossAnswer {o = o} (rw (to_z-of_z s.ranges.split) at call.cross.ensures)
-    (cross-counted a.memory.now a.gains.now a.split a.input.now a.bass.now a.horn.now) c.before.crossed-parts.ensures c.count.ensures c.count.type-inv
+    lent_returned cross_answer {o = o} (rw (to_z-of_z s.ranges.split) at call.cross.ensures)
+    (cross_counted a.memory.now a.gains.now a.split a.input.now a.bass.now a.horn.now) c.before.crossed-parts.ensures c.count.ensures c.count.type-inv
 
 count-requires : tie.Need-count-requires
 count-requires c κs =
@@ -23,8 +23,8 @@ count-requires c κs =
     let s = call.before.before.before.before in
     let a = s.args in
     let o = cross_of a.memory.now a.gains.now a.split a.input.now a.bass.now a.horn.now in
-    lent_fits crossAnswer {o = o} (rw (to_z-of_z s.ranges.split) at call.cross.ensures)
-    (cross-counted a.memory.now a.gains.now a.split a.input.now a.bass.now a.horn.now) c.crossed-parts.ensures
+    lent_fits cross_answer {o = o} (rw (to_z-of_z s.ranges.split) at call.cross.ensures)
+    (cross_counted a.memory.now a.gains.now a.split a.input.now a.bass.now a.horn.now) c.crossed-parts.ensures
 
 pub oeq-crossover-spec : {M : Type 1} → statement M
 oeq-crossover-spec =

@@ -1,4 +1,4 @@
--- `form::is_form` meets its contract: the tests of `isForm` in turn. Assumes nothing.
+-- `form::is_form` meets its contract: the tests of `is_form` in turn. Assumes nothing.
 use borrow.Author.Rules.{rules}
 use Rattle.fields.proofs.ByTest.{anding}
 use Rattle.chunks.proofs.form.is_form.Statement.{statement}

@@ -4,7 +4,7 @@ use Prim.Native.Nat.{ℕ, ◌+◌}
 use lib.Dec.{leb}
 use lib.ListN.{length}
 use borrow.Author.Rules.{rules}
-use Rattle.chunks.specs.Walk.{headerLength}
+use Rattle.chunks.specs.Walk.{header_length}
 use Rattle.chunks.proofs.lowest.contained.Statement.{statement}
 use Rattle.chunks.proofs.lowest.contained.Tie as tie
 
@@ -15,4 +15,4 @@ contained-spec =
     (λ c κs. search rules)
     (λ c. search rules)
     (λ c. search rules)
-    (λ c. ap (λ (n : ℕ). leb (headerLength + n) (length c.before.before.args.rest.now)) c.size_in.ensures))
+    (λ c. ap (λ (n : ℕ). leb (header_length + n) (length c.before.before.args.rest.now)) c.size_in.ensures))

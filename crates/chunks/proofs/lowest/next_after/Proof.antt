@@ -1,6 +1,6 @@
 -- `lowest::next_after` meets its contract. Assumes nothing.
 use borrow.Author.Rules.{rules}
-use Rattle.chunks.proofs.Headers.{next-there}
+use Rattle.chunks.proofs.Headers.{next_there}
 use Rattle.chunks.proofs.lowest.next_after.Statement.{statement}
 use Rattle.chunks.proofs.lowest.next_after.Tie as tie
 
@@ -11,4 +11,4 @@ next-after-spec =
     (λ c. search rules)
     (λ c κs. search rules)
     (λ c κs. search rules)
-    (λ c. search next-there))
+    (λ c. search next_there))

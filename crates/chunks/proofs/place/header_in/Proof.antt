@@ -1,6 +1,6 @@
 -- `place::header_in` meets its contract. Assumes nothing.
 use borrow.Author.Rules.{rules}
-use Rattle.chunks.proofs.Headers.{no_header, header-room}
+use Rattle.chunks.proofs.Headers.{no_header, header_room}
 use Rattle.chunks.proofs.place.header_in.Statement.{statement}
 use Rattle.chunks.proofs.place.header_in.Tie as tie
 
@@ -10,4 +10,4 @@ header-in-spec =
     (tie.spec
     (λ c. search no_header)
     (λ c. search rules)
-    (λ c. search header-room))
+    (λ c. search header_room))

@@ -2,7 +2,7 @@
 use mathlib.Core.Path.{ap}
 use Prim.Native.Nat.{ℕ, ◌+◌}
 use borrow.Author.Rules.{rules}
-use Rattle.chunks.specs.Walk.{headerLength, next}
+use Rattle.chunks.specs.Walk.{header_length, next}
 use Rattle.chunks.proofs.place.next_chunk.Statement.{statement}
 use Rattle.chunks.proofs.place.next_chunk.Tie as tie
 
@@ -10,7 +10,7 @@ returns : tie.Need-returns
 unfolding next
 returns c =
     let a = c.before.args in
-    ap (λ (n : ℕ). a.at + headerLength + (a.size + n)) c.padding.ensures
+    ap (λ (n : ℕ). a.at + header_length + (a.size + n)) c.padding.ensures
 
 pub next-chunk-spec : {M : Type 1} → statement M
 next-chunk-spec =

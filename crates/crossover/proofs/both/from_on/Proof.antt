@@ -4,7 +4,7 @@ use native.Mathlib.Omega.{arith}
 use borrow.Author.Rules.{rules, sfits_of}
 use mir.Facts.{to_z-of_z}
 use lib.ListN.{length}
-use Rattle.crossover.proofs.Keeping.{Keeping, keeping-starts, keeping-on, keeping-ends}
+use Rattle.crossover.proofs.Keeping.{Keeping, keeping_starts, keeping_on, keeping_ends}
 use Rattle.crossover.proofs.both.from_on.Statement.{statement}
 use Rattle.crossover.proofs.both.from_on.Tie as tie
 
@@ -15,7 +15,7 @@ abbrev decreases-loop : tie.decreases-loop
 decreases-loop gains from found₀ i₀ found i = length gains - i
 
 loop-holds : tie.Need-loop-init invariant-loop decreases-loop
-loop-holds c = keeping-starts c.args.from c.args.gains.now c.requires.0
+loop-holds c = keeping_starts c.args.from c.args.gains.now c.requires.0
 
 mul-found : tie.Need-overflow-mul-found invariant-loop decreases-loop
 mul-found c = search rules
@@ -39,10 +39,10 @@ loop-again : tie.Need-loop-preserved invariant-loop decreases-loop
 loop-again c =
     let s = c.before.before.before in
     let l = c.before.before.loop in
-    keeping-on l.invariant _ c.before.loop-test.true s.requires.1 (to_z-of_z (sfits_of c.found.given))
+    keeping_on l.invariant _ c.before.loop-test.true s.requires.1 (to_z-of_z (sfits_of c.found.given))
 
 returns : tie.Need-returns invariant-loop decreases-loop
-returns c = keeping-ends c.before.loop.invariant c.loop-test.false
+returns c = keeping_ends c.before.loop.invariant c.loop-test.false
 
 pub from-on-spec : {M : Type 1} → statement M
 from-on-spec =

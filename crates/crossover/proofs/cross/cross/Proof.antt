@@ -3,7 +3,7 @@ use mathlib.Core.Path.{ap}
 use borrow.Author.Rules.{rules}
 use mir.Facts.{to_z-of_z}
 use Rattle.answers.proofs.Laws.{refuses}
-use Rattle.octave.proofs.Memories.{kept-wrong, kept-right, kept-bands, kept-channels}
+use Rattle.octave.proofs.Memories.{kept_wrong, kept_right, kept_bands, kept_channels}
 use Rattle.crossover.specs.declared.cross.Crossed.TheVariants.{Memory}
 use Rattle.crossover.proofs.cross.cross.Statement.{statement}
 use Rattle.crossover.proofs.cross.cross.Tie as tie
@@ -17,9 +17,9 @@ cross-of-requires c κs =
     let channels = k.bands.given.0.1.0 in
     let is = k.bands.given.1 in
     record {
-      kept = kept-right m judge.result judge.ensures bands channels is;
-      bands-are = kept-bands m judge.result judge.ensures bands channels is;
-      channels-are = kept-channels m judge.result judge.ensures bands channels is;
+      kept = kept_right m judge.result judge.ensures bands channels is;
+      bands_are = kept_bands m judge.result judge.ensures bands channels is;
+      channels_are = kept_channels m judge.result judge.ensures bands channels is;
     }
 
 returns : tie.Need-returns
@@ -32,7 +32,7 @@ returns-2 c =
     let s = c.before.before.before.before.before in
     let judge = c.before.before.before.judge in
     let fault = c.before.fault.given in
-    let wrong = kept-wrong s.args.memory.now judge.result judge.ensures fault.0.0 fault.1 in
+    let wrong = kept_wrong s.args.memory.now judge.result judge.ensures fault.0.0 fault.1 in
     let told = wrong.0 in
     let is = ap Memory wrong.1 in
     search refuses depth 12

@@ -9,24 +9,24 @@ use lib.IntN.{ℤ, pos}
 use lib.ListN.{length}
 use mir.Facts.{to_z-of_z, to_z_pos}
 use mir.Syntax.{w32}
-use Rattle.answers.specs.Range.{within, firstOutside}
-use Rattle.answers.specs.Unit.{largestGain}
+use Rattle.answers.specs.Range.{within, first_outside}
+use Rattle.answers.specs.Unit.{largest_gain}
 use Rattle.answers.proofs.Branches.{judging, found_none}
-use Rattle.octave.specs.Memory.{bandsIn}
-use Rattle.octave.proofs.Memories.{accepted-is, bands-few}
-use Rattle.crossover.specs.Cross.{splitAllowed}
+use Rattle.octave.specs.Memory.{bands_in}
+use Rattle.octave.proofs.Memories.{accepted_is, bands_few}
+use Rattle.crossover.specs.Cross.{split_allowed}
 use Rattle.crossover.proofs.cross.cross_of.Statement.{statement}
 use Rattle.crossover.proofs.cross.cross_of.Tie as tie
 
 few : (c : tie.Start) → (2 ≤ c.args.bands) × (c.args.bands ≤ 10)
 few c =
     let k = c.requires in
-    bands-few (accepted-is c.args.memory.now c.args.bands c.args.channels k.kept k.bands-are k.channels-are)
+    bands_few (accepted_is c.args.memory.now c.args.bands c.args.channels k.kept k.bands_are k.channels_are)
 
-split-told : (c : tie.After-within) (t : Bool) → c.within.result ≡ t → splitAllowed (bandsIn c.before.before.args.memory.now) c.before.before.args.split ≡ t
+split-told : (c : tie.After-within) (t : Bool) → c.within.result ≡ t → split_allowed (bands_in c.before.before.args.memory.now) c.before.before.args.split ≡ t
 split-told c t e =
     let s = c.before.before in
-    ap₂ (λ (h z : ℤ). within (pos 1) h z) (ap (λ (k : ℕ). pos (k - 1)) (sym s.requires.bands-are) ∙ sym (to_z_pos w32 (omega (arith, few s)))) (sym (to_z-of_z s.ranges.split)) ∙
+    ap₂ (λ (h z : ℤ). within (pos 1) h z) (ap (λ (k : ℕ). pos (k - 1)) (sym s.requires.bands_are) ∙ sym (to_z_pos w32 (omega (arith, few s)))) (sym (to_z-of_z s.ranges.split)) ∙
     sym c.within.ensures ∙ e
 
 cross-input-requires : tie.Need-cross-input-requires
@@ -40,11 +40,11 @@ cross-input-requires c κs =
     let parted = split-told w true (not-false w.within.result g.before.before.if2.false) in
     record {
       memory_kept = s.requires;
-      counted = eq-eqb (length gains) (bandsIn a.memory.now) (w.before.if1.false ∙ s.requires.bands-are);
-      split-allowed = rw (to_z-of_z s.ranges.split) parted;
-      gains-allowed = found_none (length gains) (firstOutside (pos 0) (pos largestGain) gains) first.result first.ensures g.if3.false;
+      counted = eq-eqb (length gains) (bands_in a.memory.now) (w.before.if1.false ∙ s.requires.bands_are);
+      split_allowed_lem = rw (to_z-of_z s.ranges.split) parted;
+      gains_allowed = found_none (length gains) (first_outside (pos 0) (pos largest_gain) gains) first.result first.ensures g.if3.false;
       low_alike = eq-eqb (length a.bass.now) (length a.input.now) c.before.before.before.before.if4.false;
-      high-alike = eq-eqb (length a.horn.now) (length a.input.now) c.before.before.before.if5.false;
+      high_alike = eq-eqb (length a.horn.now) (length a.input.now) c.before.before.before.if5.false;
     }
 
 returns-6 : tie.Need-returns-6

@@ -2,7 +2,7 @@
 use mathlib.Core.Path.{sym}
 use native.Mathlib.Omega.{arith}
 use lib.Seq.{length-take-le}
-use Rattle.eqfile.proofs.WholeSamples.{end-within, part-fits, taken_yes, taken-no, not_taken, all-taken, joined}
+use Rattle.eqfile.proofs.WholeSamples.{end_within, part_fits, taken_yes, taken_no, not_taken, all_taken, joined}
 use borrow.Author.Rules.{rules}
 use Rattle.eqfile.proofs.data.samples_from.Statement.{statement}
 use Rattle.eqfile.proofs.data.samples_from.Tie as tie
@@ -11,21 +11,21 @@ mul-end : tie.Need-overflow-mul-end
 mul-end c =
     let size = c.before in
     let a = size.before.before.args in
-    omega (arith, end-within a.format a.bytes.now a.samples.now size.bytes-each.result c.least.result size.bytes-each.ensures.0 c.least.ensures)
+    omega (arith, end_within a.format a.bytes.now a.samples.now size.bytes-each.result c.least.result size.bytes-each.ensures.0 c.least.ensures)
 
 slice-aggregate-bytes-to-samples : tie.Need-slice-aggregate-bytes-to-samples
 slice-aggregate-bytes-to-samples c =
     let least = c.before in
     let size = least.before in
     let a = size.before.before.args in
-    sym (length-take-le _ a.bytes.now (end-within a.format a.bytes.now a.samples.now size.bytes-each.result least.least.result size.bytes-each.ensures.0 least.least.ensures))
+    sym (length-take-le _ a.bytes.now (end_within a.format a.bytes.now a.samples.now size.bytes-each.result least.least.result size.bytes-each.ensures.0 least.least.ensures))
 
 slice-aggregate-bytes-to-samples-2 : tie.Need-slice-aggregate-bytes-to-samples-2
 slice-aggregate-bytes-to-samples-2 c =
     let least = c.before.before in
     let size = least.before in
     let a = size.before.before.args in
-    sym (length-take-le _ a.samples.now (part-fits a.format a.bytes.now a.samples.now size.bytes-each.result least.least.result size.bytes-each.ensures.0 least.least.ensures))
+    sym (length-take-le _ a.samples.now (part_fits a.format a.bytes.now a.samples.now size.bytes-each.result least.least.result size.bytes-each.ensures.0 least.least.ensures))
 
 returns : tie.Need-returns
 returns c =
@@ -33,7 +33,7 @@ returns c =
     let least = call.before.before.before in
     let size = least.before in
     let a = size.before.before.args in
-    let no = taken-no a.format a.bytes.now a.samples.now size.bytes-each.result least.least.result size.bytes-each.ensures.0 least.least.ensures
+    let no = taken_no a.format a.bytes.now a.samples.now size.bytes-each.result least.least.result size.bytes-each.ensures.0 least.least.ensures
     call.bytes-to-samples.result call.bytes-to-samples.new.1.1.0 call.bytes-to-samples.ensures c.match.keys2 in
     not_taken a.format a.bytes.now a.samples.now size.bytes-each.result least.least.result size.bytes-each.ensures.0 least.least.ensures
     call.bytes-to-samples.new.1.1.0 no.0 no.1
@@ -48,7 +48,7 @@ returns-2 c =
     let a = size.before.before.args in
     let yes = taken_yes a.format a.bytes.now a.samples.now size.bytes-each.result least.least.result size.bytes-each.ensures.0 least.least.ensures
     call.bytes-to-samples.result call.bytes-to-samples.new.1.1.0 call.bytes-to-samples.ensures told.enum_told.given.0.0 told.enum_told.given.1 in
-    all-taken a.format a.bytes.now a.samples.now size.bytes-each.result least.least.result size.bytes-each.ensures.0 least.least.ensures _ yes.0
+    all_taken a.format a.bytes.now a.samples.now size.bytes-each.result least.least.result size.bytes-each.ensures.0 least.least.ensures _ yes.0
     (joined a.format a.bytes.now a.samples.now size.bytes-each.result least.least.result size.bytes-each.ensures.0 least.least.ensures
     call.bytes-to-samples.new.1.1.0 clear.clear.new.0 yes.1 clear.clear.ensures)
 

@@ -1,6 +1,6 @@
 -- `front::carry` meets its contract. Assumes nothing.
 use mathlib.Core.Path.{sym}
-use Rattle.eqfile.proofs.Copies.{nothing-there, part-long, parts-alike, carried}
+use Rattle.eqfile.proofs.Copies.{nothing_there, part_long, parts_alike, carried}
 use borrow.Author.Rules.{rules}
 use Rattle.eqfile.proofs.front.carry.Statement.{statement}
 use Rattle.eqfile.proofs.front.carry.Tie as tie
@@ -10,21 +10,21 @@ returns c =
     let least = c.before in
     let left = least.before in
     let a = left.before.before.before.args in
-    nothing-there a.front.now a.bytes.now a.from left.left.result least.least.result left.left.ensures least.least.ensures c.if1.true
+    nothing_there a.front.now a.bytes.now a.from left.left.result least.least.result left.left.ensures least.least.ensures c.if1.true
 
 slice-aggregate-copy : tie.Need-slice-aggregate-copy
 slice-aggregate-copy c =
     let least = c.before.before.before in
     let left = least.before in
     let a = left.before.before.before.args in
-    sym (part-long a.front.now a.bytes.now a.from left.left.result least.least.result left.left.ensures least.least.ensures)
+    sym (part_long a.front.now a.bytes.now a.from left.left.result least.least.result left.left.ensures least.least.ensures)
 
 copy-requires : tie.Need-copy-requires
 copy-requires c κs =
     let least = c.before.before.before in
     let left = least.before in
     let a = left.before.before.before.args in
-    parts-alike a.front.now a.bytes.now a.from left.left.result least.least.result left.left.ensures least.least.ensures
+    parts_alike a.front.now a.bytes.now a.from left.left.result least.least.result left.left.ensures least.least.ensures
 
 returns-2 : tie.Need-returns-2
 returns-2 c =

@@ -3,7 +3,7 @@ use mathlib.Core.Path.{refl}
 use Prim.Native.Nat.{◌-◌}
 use native.Mathlib.Omega.{arith}
 use lib.ListN.{length}
-use Rattle.eqfile.proofs.Copies.{Copying, copying-turn, copied}
+use Rattle.eqfile.proofs.Copies.{Copying, copying_turn, copied}
 use Rattle.eqfile.proofs.front.copy.Statement.{statement}
 use Rattle.eqfile.proofs.front.copy.Tie as tie
 
@@ -22,7 +22,7 @@ shared-slice-read-to c = omega (arith, c.before.before.before.requires, c.before
 loop-again : tie.Need-loop-preserved invariant-loop decreases-loop
 loop-again c =
     let l = c.before.before in
-    copying-turn l.before.args.from.now l.before.args.to.now l.before.requires l.loop.to l.loop.i l.loop.invariant c.before.loop-test.true
+    copying_turn l.before.args.from.now l.before.args.to.now l.before.requires l.loop.to l.loop.i l.loop.invariant c.before.loop-test.true
 
 same_length : tie.Need-same-length invariant-loop decreases-loop
 same_length c = c.before.loop.invariant.long

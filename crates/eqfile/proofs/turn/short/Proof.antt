@@ -2,13 +2,13 @@
 use mathlib.Core.Path.{ap, ◌∙◌}
 use Prim.Native.Nat.{ℕ, ◌-◌, ◌*◌}
 use native.Mathlib.Omega.{arith}
-use Rattle.eqfile.proofs.Turns.{product-fits}
+use Rattle.eqfile.proofs.Turns.{product_fits}
 use borrow.Author.Rules.{rules}
 use Rattle.eqfile.proofs.turn.short.Statement.{statement}
 use Rattle.eqfile.proofs.turn.short.Tie as tie
 
 mul_left : tie.Need-overflow-mul-left
-mul_left c = product-fits c.frame-size.result c.before.args.frames c.frame-size.ensures.2 (omega arith)
+mul_left c = product_fits c.frame-size.result c.before.args.frames c.frame-size.ensures.2 (omega arith)
 
 returns : tie.Need-returns
 returns c =

@@ -3,8 +3,8 @@ use mathlib.Core.Path.{sym, ◌∙◌}
 use native.Mathlib.Omega.{arith}
 use borrow.Author.Tests.{not-true, not-false}
 use Rattle.samples.specs.Channels.{count_of}
-use Rattle.wave_values.specs.Values.{frameSize}
-use Rattle.eqfile.proofs.Turns.{product-fits, ended, not-ended}
+use Rattle.wave_values.specs.Values.{frame_size}
+use Rattle.eqfile.proofs.Turns.{product_fits, ended, not_ended}
 use borrow.Author.Rules.{rules}
 use Rattle.eqfile.proofs.turn.wanted.Statement.{statement}
 use Rattle.eqfile.proofs.turn.wanted.Tie as tie
@@ -12,10 +12,10 @@ use Rattle.eqfile.proofs.turn.wanted.Tie as tie
 returns : tie.Need-returns
 returns c =
     let a = c.before.before.args in
-    ended (frameSize (count_of a.channels) a.format) a.frames a.at a.read a.fed (sym c.before.all_read.ensures ∙ not-true c.before.all_read.result c.if1.true)
+    ended (frame_size (count_of a.channels) a.format) a.frames a.at a.read a.fed (sym c.before.all_read.ensures ∙ not-true c.before.all_read.result c.if1.true)
 
 mul-result : tie.Need-overflow-mul-result
-mul-result c = product-fits c.before.before.frame-size.result c.least.result c.before.before.frame-size.ensures.2 (omega arith)
+mul-result c = product_fits c.before.before.frame-size.result c.least.result c.before.before.frame-size.ensures.2 (omega arith)
 
 returns-2 : tie.Need-returns-2
 returns-2 c =
@@ -23,7 +23,7 @@ returns-2 c =
     let size = left.before in
     let read = size.before.before in
     let a = read.before.args in
-    not-ended (frameSize (count_of a.channels) a.format) a.frames a.at a.read a.fed size.frame-size.result c.least.result left.left.result
+    not_ended (frame_size (count_of a.channels) a.format) a.frames a.at a.read a.fed size.frame-size.result c.least.result left.left.result
     size.frame-size.ensures.0 (sym read.all_read.ensures ∙ not-false read.all_read.result size.before.if1.false) left.left.ensures c.least.ensures
 
 pub wanted-spec : {M : Type 1} → statement M

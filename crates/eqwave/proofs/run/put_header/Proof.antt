@@ -1,7 +1,7 @@
 -- `run::put_header` is safe: the writer accepts, and hands over the header. Assumes nothing.
 use mathlib.Core.Path.{refl}
 use native.Mathlib.Omega.{arith}
-use Rattle.eqwave.proofs.Beginning.{header_is, few-samples}
+use Rattle.eqwave.proofs.Beginning.{header_is, few_samples}
 use borrow.Author.Rules.{rules}
 use Rattle.eqwave.proofs.run.put_header.Statement.{statement}
 use Rattle.eqwave.proofs.run.put_header.Tie as tie
@@ -10,13 +10,13 @@ mul-write : tie.Need-overflow-mul-write
 mul-write c =
     let n = c.before in
     let s = n.before in
-    omega (arith, few-samples s.args.rate s.args.channels s.args.frames n.channel-count.result s.requires n.channel-count.ensures.0)
+    omega (arith, few_samples s.args.rate s.args.channels s.args.frames n.channel-count.result s.requires n.channel-count.ensures.0)
 
 mul-write-2 : tie.Need-overflow-mul-write-2
 mul-write-2 c =
     let n = c.before in
     let s = n.before in
-    omega (arith, few-samples s.args.rate s.args.channels s.args.frames n.channel-count.result s.requires n.channel-count.ensures.0)
+    omega (arith, few_samples s.args.rate s.args.channels s.args.frames n.channel-count.result s.requires n.channel-count.ensures.0)
 
 hand-header-requires : tie.Need-hand-header-requires
 hand-header-requires c κs =

@@ -2,7 +2,7 @@
 use mathlib.Core.Path.{sym}
 use native.Mathlib.Omega.{arith}
 use lib.Seq.{length-take-le}
-use Rattle.eqwave.proofs.Handed.{zero-taken}
+use Rattle.eqwave.proofs.Handed.{zero_taken}
 use borrow.Author.Rules.{rules}
 use Rattle.eqwave.proofs.run.put_pad.Statement.{statement}
 use Rattle.eqwave.proofs.run.put_pad.Tie as tie
@@ -13,7 +13,7 @@ array-share-prefix-zero c = omega (arith, c.pad-after.ensures)
 hand-pad-requires : tie.Need-hand-pad-requires
 hand-pad-requires c κs =
     let p = c.before in
-    (p.before.before.requires, zero-taken _ _ p.pad-after.ensures)
+    (p.before.before.requires, zero_taken _ _ p.pad-after.ensures)
 
 pub put-pad-spec : {M : Type 1} → statement M
 put-pad-spec =

@@ -1,7 +1,7 @@
 -- `run::run` is safe: the header is that of the run, and its turns start from a prepared memory. Assumes nothing.
 use mathlib.Core.Path.{sym}
 use lib.Seq.{length-take-le}
-use Rattle.eqwave.proofs.Beginning.{part-fits, still-fits, part-prepared, at-start}
+use Rattle.eqwave.proofs.Beginning.{part_fits, still_fits, part_prepared, at_start}
 use borrow.Author.Rules.{rules}
 use Rattle.eqwave.proofs.run.run.Statement.{statement}
 use Rattle.eqwave.proofs.run.run.Tie as tie
@@ -11,7 +11,7 @@ array-borrow-prefix-memory c =
     let l = c.before in
     let m = l.before in
     let s = m.before.before.before.before in
-    part-fits s.args.job.channels m.memory.result l.places.ensures m.memory.ensures
+    part_fits s.args.job.channels m.memory.result l.places.ensures m.memory.ensures
 
 array-borrow-prefix-memory-2 : tie.Need-array-borrow-prefix-memory-2
 array-borrow-prefix-memory-2 c =
@@ -20,7 +20,7 @@ array-borrow-prefix-memory-2 c =
     let l = n.before in
     let m = l.before in
     let s = m.before.before.before.before in
-    still-fits s.args.job.channels m.memory.result l.places.ensures m.memory.ensures n.channel-count.ensures.0 p.prepare.ensures
+    still_fits s.args.job.channels m.memory.result l.places.ensures m.memory.ensures n.channel-count.ensures.0 p.prepare.ensures
 
 turns-requires : tie.Need-turns-requires
 turns-requires c κs =
@@ -29,8 +29,8 @@ turns-requires c κs =
     let l = n.before in
     let m = l.before in
     let s = m.before.before.before.before in
-    at-start s.args.job s.args.gains.now s.args.front.now s.args.rate _ s.requires
-    (part-prepared s.args.job.channels m.memory.result l.places.ensures m.memory.ensures n.channel-count.ensures.0 p.prepare.ensures)
+    at_start s.args.job s.args.gains.now s.args.front.now s.args.rate _ s.requires
+    (part_prepared s.args.job.channels m.memory.result l.places.ensures m.memory.ensures n.channel-count.ensures.0 p.prepare.ensures)
 
 pub run_spec : {M : Type 1} → statement M
 run_spec =

@@ -3,7 +3,7 @@ use mathlib.Core.Path.{◌≡◌, refl, subst, ◌∙◌}
 use Prim.Native.Nat.{◌-◌}
 use native.Mathlib.Omega.{arith}
 use lib.ListN.{length}
-use Rattle.eqfile.specs.Turn.{fedInAll}
+use Rattle.eqfile.specs.Turn.{fed_in_all}
 use Rattle.turning.specs.declared.turn.Turned.{Turned}
 use Rattle.turning.specs.declared.turn.Turned.TheVariants.{NotANumber}
 use Rattle.turning.specs.Running.{Running, Further}
@@ -14,7 +14,7 @@ use Rattle.eqwave.proofs.run.turns.Tie as tie
 
 abbrev invariant-loop : tie.invariant-loop
 invariant-loop job gains front memory₀ place₀ total memory place =
-    (total ≡ fedInAll job.frames) × (length memory ≡ length memory₀) × Running job gains front place memory
+    (total ≡ fed_in_all job.frames) × (length memory ≡ length memory₀) × Running job gains front place memory
 
 abbrev decreases-loop : tie.decreases-loop
 decreases-loop job gains front memory₀ place₀ total memory place = total - place.at
@@ -26,19 +26,19 @@ one-turn-requires : tie.Need-one-turn-requires invariant-loop decreases-loop
 one-turn-requires c κs = c.before.before.before.loop.invariant.2
 
 -- what a turn that came to r leaves
-left : (c : tie.After-one-turn invariant-loop decreases-loop) (r : Turned) → c.one-turn.result ≡ r →
+left : (c : tie.After-one-turn invariant-loop decreases-loop) (r : Turned) → c.one_turn.result ≡ r →
     let l = c.before.before.before.before in
     let a = l.before.before.before.args in
-    Further a.job a.gains.now a.front.now l.loop.place r c.one-turn.new.1.1.1.1.0
+    Further a.job a.gains.now a.front.now l.loop.place r c.one_turn.new.1.1.1.1.0
 left c r e =
     let l = c.before.before.before.before in
     let a = l.before.before.before.args in
-    subst (λ (t : Turned). Further a.job a.gains.now a.front.now l.loop.place t c.one-turn.new.1.1.1.1.0) e c.one-turn.ensures
+    subst (λ (t : Turned). Further a.job a.gains.now a.front.now l.loop.place t c.one_turn.new.1.1.1.1.0) e c.one_turn.ensures
 
 -- .. and the memory is as long as it was
 still-long : (c : tie.After-one-turn invariant-loop decreases-loop) → let l = c.before.before.before.before in
-    length c.one-turn.new.1.1.1.1.0 ≡ length l.before.before.before.args.memory.now
-still-long c = c.one-turn.auto.1.1.1.1.0 ∙ c.before.before.before.before.loop.invariant.1
+    length c.one_turn.new.1.1.1.1.0 ≡ length l.before.before.before.args.memory.now
+still-long c = c.one_turn.auto.1.1.1.1.0 ∙ c.before.before.before.before.loop.invariant.1
 
 loop-less : tie.Need-loop-smaller invariant-loop decreases-loop
 loop-less c =

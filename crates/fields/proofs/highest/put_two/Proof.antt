@@ -1,7 +1,7 @@
 -- `highest::put_two` meets its contract: one byte, and one. Assumes nothing.
 use borrow.Author.Rules.{rules}
 use Rattle.fields.specs.Bytes.{highest}
-use Rattle.fields.proofs.Rows.{put-bytes}
+use Rattle.fields.proofs.Rows.{put_bytes}
 use Rattle.fields.proofs.highest.put_two.Statement.{statement}
 use Rattle.fields.proofs.highest.put_two.Tie as tie
 
@@ -13,4 +13,4 @@ put-two-spec =
     (λ c. search rules)
     (λ c κs. search rules)
     (λ c. search rules)
-    (λ c. search (put-bytes highest)))
+    (λ c. search (put_bytes highest)))

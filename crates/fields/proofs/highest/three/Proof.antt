@@ -1,7 +1,7 @@
 -- `highest::three` meets its contract: two bytes, and one. Assumes nothing.
 use borrow.Author.Rules.{rules}
 use Rattle.fields.specs.Bytes.{highest}
-use Rattle.fields.proofs.Rows.{read-parts, read_byte}
+use Rattle.fields.proofs.Rows.{read_parts, read_byte}
 use Rattle.fields.proofs.highest.three.Statement.{statement}
 use Rattle.fields.proofs.highest.three.Tie as tie
 
@@ -14,4 +14,4 @@ three-spec =
     (λ c. search rules)
     (λ c κs. search rules)
     (λ c. search rules)
-    (λ c. search (read-parts highest 2 1, read_byte highest, rules)))
+    (λ c. search (read_parts highest 2 1, read_byte highest, rules)))

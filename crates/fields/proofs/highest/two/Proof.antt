@@ -1,7 +1,7 @@
 -- `highest::two` meets its contract: one byte, and one. Assumes nothing.
 use borrow.Author.Rules.{rules}
 use Rattle.fields.specs.Bytes.{highest}
-use Rattle.fields.proofs.Rows.{read-parts, read_byte}
+use Rattle.fields.proofs.Rows.{read_parts, read_byte}
 use Rattle.fields.proofs.highest.two.Statement.{statement}
 use Rattle.fields.proofs.highest.two.Tie as tie
 
@@ -14,4 +14,4 @@ two-spec =
     (λ c. search rules)
     (λ c κs. search rules)
     (λ c. search rules)
-    (λ c. search (read-parts highest 1 1, read_byte highest, rules)))
+    (λ c. search (read_parts highest 1 1, read_byte highest, rules)))

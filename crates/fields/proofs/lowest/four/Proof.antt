@@ -1,7 +1,7 @@
 -- `lowest::four` meets its contract: two bytes, and two. Assumes nothing.
 use borrow.Author.Rules.{rules}
 use Rattle.fields.specs.Bytes.{lowest}
-use Rattle.fields.proofs.Rows.{read-parts}
+use Rattle.fields.proofs.Rows.{read_parts}
 use Rattle.fields.proofs.lowest.four.Statement.{statement}
 use Rattle.fields.proofs.lowest.four.Tie as tie
 
@@ -14,4 +14,4 @@ four-spec =
     (λ c κs. search rules)
     (λ c. search rules)
     (λ c. search rules)
-    (λ c. search (read-parts lowest 2 2, rules)))
+    (λ c. search (read_parts lowest 2 2, rules)))

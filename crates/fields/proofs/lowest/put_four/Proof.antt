@@ -1,7 +1,7 @@
 -- `lowest::put_four` meets its contract: two bytes, and two. Assumes nothing.
 use borrow.Author.Rules.{rules}
 use Rattle.fields.specs.Bytes.{lowest}
-use Rattle.fields.proofs.Rows.{put-parts}
+use Rattle.fields.proofs.Rows.{put_parts}
 use Rattle.fields.proofs.lowest.put_four.Statement.{statement}
 use Rattle.fields.proofs.lowest.put_four.Tie as tie
 
@@ -13,4 +13,4 @@ put-four-spec =
     (λ c. search rules)
     (λ c κs. search rules)
     (λ c. search rules)
-    (λ c. search (put-parts lowest 2 2)))
+    (λ c. search (put_parts lowest 2 2)))

@@ -1,7 +1,7 @@
 -- `lowest::put_three` meets its contract: two bytes, and one. Assumes nothing.
 use borrow.Author.Rules.{rules}
 use Rattle.fields.specs.Bytes.{lowest}
-use Rattle.fields.proofs.Rows.{put-and-byte}
+use Rattle.fields.proofs.Rows.{put_and_byte}
 use Rattle.fields.proofs.lowest.put_three.Statement.{statement}
 use Rattle.fields.proofs.lowest.put_three.Tie as tie
 
@@ -13,4 +13,4 @@ put-three-spec =
     (λ c. search rules)
     (λ c κs. search rules)
     (λ c. search rules)
-    (λ c. search (put-and-byte lowest 2)))
+    (λ c. search (put_and_byte lowest 2)))

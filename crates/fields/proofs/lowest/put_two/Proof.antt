@@ -1,7 +1,7 @@
 -- `lowest::put_two` meets its contract: one byte, and one. Assumes nothing.
 use borrow.Author.Rules.{rules}
 use Rattle.fields.specs.Bytes.{lowest}
-use Rattle.fields.proofs.Rows.{put-bytes}
+use Rattle.fields.proofs.Rows.{put_bytes}
 use Rattle.fields.proofs.lowest.put_two.Statement.{statement}
 use Rattle.fields.proofs.lowest.put_two.Tie as tie
 
@@ -13,4 +13,4 @@ put-two-spec =
     (λ c. search rules)
     (λ c κs. search rules)
     (λ c. search rules)
-    (λ c. search (put-bytes lowest)))
+    (λ c. search (put_bytes lowest)))

@@ -1,7 +1,7 @@
 -- `lowest::three` meets its contract: two bytes, and one. Assumes nothing.
 use borrow.Author.Rules.{rules}
 use Rattle.fields.specs.Bytes.{lowest}
-use Rattle.fields.proofs.Rows.{read-parts, read_byte}
+use Rattle.fields.proofs.Rows.{read_parts, read_byte}
 use Rattle.fields.proofs.lowest.three.Statement.{statement}
 use Rattle.fields.proofs.lowest.three.Tie as tie
 
@@ -14,4 +14,4 @@ three-spec =
     (λ c κs. search rules)
     (λ c. search rules)
     (λ c. search rules)
-    (λ c. search (read-parts lowest 2 1, read_byte lowest, rules)))
+    (λ c. search (read_parts lowest 2 1, read_byte lowest, rules)))

@@ -3,14 +3,14 @@ use mathlib.Core.Path.{◌≡◌}
 use Prim.Native.Nat.{◌≤◌, ◌-◌, ◌+◌}
 use native.Mathlib.Omega.{arith}
 use lib.ListN.{length, drop}
-use Rattle.answers.specs.First.{firstFailing}
-use Rattle.floats.specs.Block.{isNumber}
+use Rattle.answers.specs.First.{first_failing}
+use Rattle.floats.specs.Block.{is_number}
 use Rattle.floats.proofs.Finding.{stops, goes_on, ends}
 use Rattle.floats.proofs.block.first_bad.Statement.{statement}
 use Rattle.floats.proofs.block.first_bad.Tie as tie
 
 abbrev invariant-loop : tie.invariant-loop
-invariant-loop values i₀ i = (i ≤ length values) × (firstFailing isNumber values ≡ i + firstFailing isNumber (drop i values))
+invariant-loop values i₀ i = (i ≤ length values) × (first_failing is_number values ≡ i + first_failing is_number (drop i values))
 
 abbrev decreases-loop : tie.decreases-loop
 decreases-loop values i₀ i = length values - i

@@ -9,31 +9,31 @@ use lib.Pow.{pow_pos}
 use mir.Facts.{to_z-of_z}
 use Rattle.floats.specs.Exponent.{minus, exponent, digits}
 use Rattle.floats.specs.declared.code.FloatSample.TheVariants.{Is}
-use Rattle.floats.proofs.Ladder.{is-ladder, at-255, from-127, from-103, below-103}
+use Rattle.floats.proofs.Ladder.{is_ladder, at_255, from_127, from_103, below_103}
 use Rattle.floats.proofs.code.by_exponent.Statement.{statement}
 use Rattle.floats.proofs.code.by_exponent.Tie as tie
 
 returns : tie.Need-returns
 returns c =
     let code = c.before.args.code in
-    sym (is-ladder code ∙ at-255 (minus code) (exponent code) (digits code) c.match.keys1)
+    sym (is_ladder code ∙ at_255 (minus code) (exponent code) (digits code) c.match.keys1)
 
 returns-2 : tie.Need-returns-2
 returns-2 c =
     let code = c.before.before.before.before.args.code in
     ap Is (to_z-of_z (record { sfits = c.shifted.type-inv }) ∙ c.shifted.ensures)
-    ∙ sym (is-ladder code ∙ from-103 (minus code) (exponent code) (digits code) c.before.before.if1.false c.before.if2.true)
+    ∙ sym (is_ladder code ∙ from_103 (minus code) (exponent code) (digits code) c.before.before.if1.false c.before.if2.true)
 
 returns-3 : tie.Need-returns-3
 returns-3 c =
     let code = c.before.before.before.before.before.args.code in
     ap Is (to_z-of_z (record { sfits = c.end_of_lem.type-inv }) ∙ c.end_of_lem.ensures)
-    ∙ sym (is-ladder code ∙ from-127 (minus code) (exponent code) (digits code) c.before.before.if2.false c.before.if3.true)
+    ∙ sym (is_ladder code ∙ from_127 (minus code) (exponent code) (digits code) c.before.before.if2.false c.before.if3.true)
 
 returns-4 : tie.Need-returns-4
 returns-4 c =
     let code = c.before.before.args.code in
-    sym (is-ladder code ∙ below-103 (minus code) (exponent code) (digits code) c.if1.true)
+    sym (is_ladder code ∙ below_103 (minus code) (exponent code) (digits code) c.if1.true)
 
 -- eight bits that are not 255 are below it
 eight-bits : (x : ℕ) → x < 256 → (x ≡ 255 → ⊥) → x < 255

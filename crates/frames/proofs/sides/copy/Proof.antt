@@ -2,7 +2,7 @@
 use Prim.Native.Nat.{◌-◌}
 use lib.ListN.{length}
 use borrow.Author.Rules.{rules, sfits_of}
-use Rattle.frames.proofs.Loops.{Copying, copying-starts, copying-on, copying-ends}
+use Rattle.frames.proofs.Loops.{Copying, copying_starts, copying_on, copying_ends}
 use Rattle.frames.proofs.sides.copy.Statement.{statement}
 use Rattle.frames.proofs.sides.copy.Tie as tie
 
@@ -16,12 +16,12 @@ loop-again : tie.Need-loop-preserved invariant-loop decreases-loop
 loop-again c =
     let s = c.before.before.before in
     let g = c.before.before.loop in
-    copying-on s.args.block.now s.args.row.now g.row g.i g.invariant c.before.loop-test.true s.requires (sfits_of c.row.given)
+    copying_on s.args.block.now s.args.row.now g.row g.i g.invariant c.before.loop-test.true s.requires (sfits_of c.row.given)
 
 returns : tie.Need-returns invariant-loop decreases-loop
 returns c =
     let a = c.before.before.args in
-    copying-ends a.block.now a.row.now c.before.loop.row c.before.loop.i c.before.loop.invariant c.loop-test.false
+    copying_ends a.block.now a.row.now c.before.loop.row c.before.loop.i c.before.loop.invariant c.loop-test.false
 
 pub copy_spec : {M : Type 1} → statement M
 copy_spec =
@@ -29,7 +29,7 @@ copy_spec =
     (tie.spec
     invariant-loop
     decreases-loop
-    (λ c. copying-starts c.args.block.now c.args.row.now)
+    (λ c. copying_starts c.args.block.now c.args.row.now)
     (λ c. search rules)
     (λ c. search rules)
     (λ c. search rules)

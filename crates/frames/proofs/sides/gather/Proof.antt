@@ -6,8 +6,8 @@ use lib.ListN.{length}
 use native.Mathlib.Omega.{arith}
 use borrow.Author.Rules.{rules, sfits_of}
 use Rattle.frames.specs.Frames.{side}
-use Rattle.frames.proofs.Laws.{place_inside, side-copied}
-use Rattle.frames.proofs.Loops.{Gathering, gathering-starts, gathering-on, gathering-ends}
+use Rattle.frames.proofs.Laws.{place_inside, side_copied}
+use Rattle.frames.proofs.Loops.{Gathering, gathering_starts, gathering_on, gathering_ends}
 use Rattle.frames.proofs.sides.gather.Statement.{statement}
 use Rattle.frames.proofs.sides.gather.Tie as tie
 
@@ -45,19 +45,19 @@ loop-again c =
     let s = c.before.before.before.before in
     let a = s.args in
     let l = c.before.before.loop in
-    gathering-on 2 a.s a.n a.block.now a.row.now l.row l.i l.invariant c.before.loop-test.true s.requires.2 (sfits_of c.row2.given)
+    gathering_on 2 a.s a.n a.block.now a.row.now l.row l.i l.invariant c.before.loop-test.true s.requires.2 (sfits_of c.row2.given)
 
 returns : tie.Need-returns invariant-loop decreases-loop
 returns c =
     let s = c.before.before.before.before in
     let a = s.args in
-    side-copied a.channels a.s a.n a.block.now c.before.copy.new.1.0 c.before.before.before.if1.true s.requires.0 s.requires.1 c.before.copy.ensures
+    side_copied a.channels a.s a.n a.block.now c.before.copy.new.1.0 c.before.before.before.if1.true s.requires.0 s.requires.1 c.before.copy.ensures
 
 returns-2 : tie.Need-returns-2 invariant-loop decreases-loop
 returns-2 c =
     let a = c.before.before.before.args in
     let l = c.before.loop in
-    gathering-ends 2 a.s a.n a.block.now a.row.now l.row l.i l.invariant c.loop-test.false ∙ ap (λ (k : ℕ). side k a.s a.n a.block.now) (sym (two c.before.before))
+    gathering_ends 2 a.s a.n a.block.now a.row.now l.row l.i l.invariant c.loop-test.false ∙ ap (λ (k : ℕ). side k a.s a.n a.block.now) (sym (two c.before.before))
 
 copy-requires : tie.Need-copy-requires invariant-loop decreases-loop
 copy-requires c κs =
@@ -73,7 +73,7 @@ gather-spec =
     copy-requires
     (λ c. search rules)
     returns
-    (λ c. let a = c.before.args in gathering-starts 2 a.s a.n a.block.now a.row.now)
+    (λ c. let a = c.before.args in gathering_starts 2 a.s a.n a.block.now a.row.now)
     mul-row
     add_row
     mul-row-2

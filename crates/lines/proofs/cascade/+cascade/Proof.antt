@@ -5,7 +5,7 @@ use borrow.Author.Rules.{rules}
 use Rattle.tree.specs.Prototype.{published}
 use Rattle.lines.specs.Helpers.{Part}
 use Rattle.lines.proofs.Regions.{row_of}
-use Rattle.lines.proofs.Cascading.{region-below, one-band, joined}
+use Rattle.lines.proofs.Cascading.{region_below, one_band, joined}
 use Prim.Native.Nat.{ℕ, ◌<◌}
 use borrow.Fn.Kinds.{In}
 use borrow.Fn.PlainCycle.{Measures, is, falls, and}
@@ -35,7 +35,7 @@ first-row t s more = row_of published s.args.size s.args.at s.args.l s.args.band
 cascade-returns : (t : ℕ) → cascade-lts.Need-returns (calls t) (cascade-at t) cascade.Post
 cascade-returns t c =
     let a = c.before.args in
-    one-band published a.size a.at a.l a.n a.lines.now a.rows.now a.bands c.if1.true
+    one_band published a.size a.at a.l a.n a.lines.now a.rows.now a.bands c.if1.true
 
 cascade-sub-cascade : (t : ℕ) → cascade-lts.Need-overflow-sub-cascade (calls t) (cascade-at t) cascade.Post
 cascade-sub-cascade t c = omega (arith, (first-row t c.before.before.before.before.before.before c.before.before.before.before.before.if1.false).held, c.before.before.line-over.auto.0)
@@ -52,7 +52,7 @@ cascade-cascade-requires t c κs =
     let a = s.args in
     let over = c.before.before.before.before.line-over in (
       omega (arith, s.requires.0, s.requires.1.region.some),
-      region-below published a.size a.at a.l a.n a.lines.now a.rows.now a.bands over.new.0 over.new.1.1.1.1.1.0 c.before.before.before.before.before.before.before.if1.false s.requires.1 over.auto.0 over.auto.1.1.1.1.1.0,
+      region_below published a.size a.at a.l a.n a.lines.now a.rows.now a.bands over.new.0 over.new.1.1.1.1.1.0 c.before.before.before.before.before.before.before.if1.false s.requires.1 over.auto.0 over.auto.1.1.1.1.1.0,
     )
 
 cascade-returns-2 : (t : ℕ) → cascade-lts.Need-returns-2 (calls t) (cascade-at t) cascade.Post

@@ -6,7 +6,7 @@ use mir.Syntax.{w32}
 use Rattle.whole.proofs.Rounded.{raw}
 use Rattle.tree.specs.Prototype.{published}
 use Rattle.ring.specs.Helpers.{Within}
-use Rattle.lines.proofs.Loops.{Going, going-starts, going-within, going-second, going_on, going-ends}
+use Rattle.lines.proofs.Loops.{Going, going_starts, going_within, going_second, going_on, going_ends}
 use Rattle.lines.proofs.row.far.Statement.{statement}
 use Rattle.lines.proofs.row.far.Tie as tie
 
@@ -18,10 +18,10 @@ decreases-loop lines₀ size at l from to rows₀ i₀ lines rows i = to - i
 
 within-line : (c : tie.At-loop invariant-loop decreases-loop) → c.loop.i < c.before.args.to →
     Within published c.loop.lines c.before.args.size (c.before.args.at + c.loop.i) c.before.args.l
-within-line c h = going-within c.before.requires.0 c.loop.invariant h
+within-line c h = going_within c.before.requires.0 c.loop.invariant h
 
 loop-holds : tie.Need-loop-init invariant-loop decreases-loop
-loop-holds c = going-starts published c.args.size c.args.at c.args.l c.args.from c.args.to c.args.lines.now c.args.rows.now c.requires.0.ordered
+loop-holds c = going_starts published c.args.size c.args.at c.args.l c.args.from c.args.to c.args.lines.now c.args.rows.now c.requires.0.ordered
 
 low-far-requires : tie.Need-low-far-requires invariant-loop decreases-loop
 low-far-requires c κs =
@@ -33,7 +33,7 @@ low-far-requires c κs =
 slice-set-from-rows-2 : tie.Need-slice-set-from-rows-2 invariant-loop decreases-loop
 slice-set-from-rows-2 c =
     let test = c.before.before.before.before.before in
-    going-second test.before.before.requires.0 test.before.loop.invariant (raw w32 c.before.before.late-value.result) test.loop-test.true
+    going_second test.before.before.requires.0 test.before.loop.invariant (raw w32 c.before.before.late-value.result) test.loop-test.true
 
 loop-again : tie.Need-loop-preserved invariant-loop decreases-loop
 loop-again c =
@@ -43,7 +43,7 @@ loop-again c =
     c.low-far.ensures late.late-value.ensures
 
 returns : tie.Need-returns invariant-loop decreases-loop
-returns c = going-ends c.before.before.requires.0 c.before.loop.invariant c.loop-test.false
+returns c = going_ends c.before.before.requires.0 c.before.loop.invariant c.loop-test.false
 
 pub far-spec : {M : Type 1} → statement M
 far-spec =

@@ -4,8 +4,8 @@ use Prim.Native.Nat.{◌≤◌}
 use native.Mathlib.Omega.{arith}
 use lib.ListN.{length}
 use Rattle.tree.specs.Prototype.{published}
-use Rattle.lines.specs.Rows.{rowPlaces}
-use Rattle.lines.proofs.Parts.{parts, starting, part-of-row, Cuts, cuts}
+use Rattle.lines.specs.Rows.{row_places}
+use Rattle.lines.proofs.Parts.{parts, starting, part_of_row, Cuts, cuts}
 use borrow.Author.Rules.{rules}
 use Rattle.lines.proofs.row.line_over.Statement.{statement}
 use Rattle.lines.proofs.row.line_over.Tie as tie
@@ -14,7 +14,7 @@ the-cuts : (c : tie.After-up-to2) → let a = c.before.before.args in Cuts a.at 
 the-cuts c =
     let s = c.before.before in
     let a = s.args in
-    cuts a.size a.at a.l a.n c.before.up_to.result c.up-to2.result s.requires.before-end c.before.up_to.ensures c.up-to2.ensures
+    cuts a.size a.at a.l a.n c.before.up_to.result c.up-to2.result s.requires.before_end c.before.up_to.ensures c.up-to2.ensures
 
 far-requires : tie.Need-far-requires
 far-requires c κs =
@@ -23,7 +23,7 @@ far-requires c κs =
     let a = s.args in
     let k = the-cuts c2 in
     let near = c.before.before.before.before.near in (
-      part-of-row published a.size a.at a.l a.n a.lines.now a.rows.now s.requires c2.before.up_to.result c2.up-to2.result near.new.0 near.new.1.1.1.1.1.1.0
+      part_of_row published a.size a.at a.l a.n a.lines.now a.rows.now s.requires c2.before.up_to.result c2.up-to2.result near.new.0 near.new.1.1.1.1.1.1.0
           k.first k.second near.auto.0 near.auto.1.1.1.1.1.1.0,
       k.far,
     )
@@ -36,7 +36,7 @@ straight-requires c κs =
     let k = the-cuts c2 in
     let near = c.before.before.before.before.before.before.before.before.before.near in
     let far = c.before.before.before.before.far in (
-      part-of-row published a.size a.at a.l a.n a.lines.now a.rows.now s.requires c2.up-to2.result a.n far.new.0 far.new.1.1.1.1.1.1.0
+      part_of_row published a.size a.at a.l a.n a.lines.now a.rows.now s.requires c2.up-to2.result a.n far.new.0 far.new.1.1.1.1.1.1.0
           k.second (omega arith) (far.auto.0 ∙ near.auto.0) (far.auto.1.1.1.1.1.1.0 ∙ near.auto.1.1.1.1.1.1.0),
       k.straight,
     )
@@ -53,10 +53,10 @@ returns c =
     let w = c2.before.up_to.result in
     let v = c2.up-to2.result in
     let m = a.rows.now in
-    let short : v ≤ rowPlaces = omega (arith, k.second, s.requires.short) in
-    let long : rowPlaces ≤ length m = omega (arith, s.requires.room) in
-    let long₁ : rowPlaces ≤ length near.new.1.1.1.1.1.1.0 = omega (arith, long, near.auto.1.1.1.1.1.1.0) in
-    let long₂ : rowPlaces ≤ length far.new.1.1.1.1.1.1.0 = omega (arith, long₁, far.auto.1.1.1.1.1.1.0) in
+    let short : v ≤ row_places = omega (arith, k.second, s.requires.short) in
+    let long : row_places ≤ length m = omega (arith, s.requires.room) in
+    let long₁ : row_places ≤ length near.new.1.1.1.1.1.1.0 = omega (arith, long, near.auto.1.1.1.1.1.1.0) in
+    let long₂ : row_places ≤ length far.new.1.1.1.1.1.1.0 = omega (arith, long₁, far.auto.1.1.1.1.1.1.0) in
     parts published a.size a.at a.l v a.n a.lines.now m far.new.0 far.new.1.1.1.1.1.1.0 straight.new.0 straight.new.1.1.1.1.1.1.0 k.second s.requires.short long long₂
     (parts published a.size a.at a.l w v a.lines.now m near.new.0 near.new.1.1.1.1.1.1.0 far.new.0 far.new.1.1.1.1.1.1.0 k.first short long long₁
     (starting published a.size a.at a.l w a.lines.now m near.new.0 near.new.1.1.1.1.1.1.0 (omega (arith, k.first, short)) near.ensures)

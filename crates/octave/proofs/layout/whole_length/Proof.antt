@@ -2,16 +2,16 @@
 use mathlib.Core.Path.{ap}
 use Prim.Native.Nat.{ℕ, ◌+◌, ◌*◌}
 use native.Mathlib.Omega.{arith}
-use Rattle.octave.proofs.Layouts.{memory-small}
+use Rattle.octave.proofs.Layouts.{memory_small}
 use borrow.Author.Rules.{rules}
 use Rattle.octave.proofs.layout.whole_length.Statement.{statement}
 use Rattle.octave.proofs.layout.whole_length.Tie as tie
 
 mul-result : tie.Need-overflow-mul-result
-mul-result c = let s = c.before in record { fits = rw c.side-places.ensures (omega (arith, memory-small s.args.bands s.args.channels s.requires.1 s.requires.2)) }
+mul-result c = let s = c.before in record { fits = rw c.side-places.ensures (omega (arith, memory_small s.args.bands s.args.channels s.requires.1 s.requires.2)) }
 
 add-result : tie.Need-overflow-add-result
-add-result c = let s = c.before in record { fits = rw c.side-places.ensures (omega (arith, memory-small s.args.bands s.args.channels s.requires.1 s.requires.2)) }
+add-result c = let s = c.before in record { fits = rw c.side-places.ensures (omega (arith, memory_small s.args.bands s.args.channels s.requires.1 s.requires.2)) }
 
 returns : tie.Need-returns
 returns c = ap (λ (k : ℕ). 3 + c.before.args.channels * k) c.side-places.ensures

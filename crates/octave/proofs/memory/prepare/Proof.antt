@@ -13,28 +13,28 @@ use mir.Facts.{to_z-of_z}
 use Rattle.whole.proofs.Rounded.{raw}
 use Rattle.answers.proofs.Branches.{judging}
 use Rattle.octave.specs.declared.memory.Prepared.TheVariants.{Delay}
-use Rattle.octave.specs.Memory.{lineLength, memoryLength}
-use Rattle.octave.proofs.Ranges.{Count, bands-told, channels-told}
-use Rattle.octave.proofs.Memories.{prepared-is, delay-is}
+use Rattle.octave.specs.Memory.{line_length, memory_length}
+use Rattle.octave.proofs.Ranges.{Count, bands_told, channels_told}
+use Rattle.octave.proofs.Memories.{prepared_is, delay_is}
 use Rattle.octave.proofs.memory.prepare.Statement.{statement}
 use Rattle.octave.proofs.memory.prepare.Tie as tie
 
 counted : (c : tie.Else1) → Count 2 10 c.before.before.args.bands
-counted c = bands-told c.before.before.ranges.bands c.before.within.ensures c.if1.false
+counted c = bands_told c.before.before.ranges.bands c.before.within.ensures c.if1.false
 
 sided : (c : tie.Else2) → Count 1 2 c.before.before.before.before.args.channels
-sided c = channels-told c.before.before.before.before.ranges.channels c.before.within2.ensures c.if2.false
+sided c = channels_told c.before.before.before.before.ranges.channels c.before.within2.ensures c.if2.false
 
-length-is : (c : tie.After-whole-length) → let s = c.before.before.before.before.before in c.whole_length.result ≡ memoryLength (nat_abs s.args.bands) (nat_abs s.args.channels)
+length-is : (c : tie.After-whole-length) → let s = c.before.before.before.before.before in c.whole_length.result ≡ memory_length (nat_abs s.args.bands) (nat_abs s.args.channels)
 length-is c =
     let s = c.before.before.before.before.before in
-    c.whole_length.ensures ∙ ap₂ (λ (u v : ℤ). memoryLength (nat_abs u) (nat_abs v)) (to_z-of_z s.ranges.bands) (to_z-of_z s.ranges.channels)
+    c.whole_length.ensures ∙ ap₂ (λ (u v : ℤ). memory_length (nat_abs u) (nat_abs v)) (to_z-of_z s.ranges.bands) (to_z-of_z s.ranges.channels)
 
-right : (c : tie.Else3) → let s = c.before.before.before.before.before.before in length s.args.memory.now ≡ memoryLength (nat_abs s.args.bands) (nat_abs s.args.channels)
+right : (c : tie.Else3) → let s = c.before.before.before.before.before.before in length s.args.memory.now ≡ memory_length (nat_abs s.args.bands) (nat_abs s.args.channels)
 right c = c.if3.false ∙ length-is c.before
 
-size_is : (c : tie.After-line-length) → let s = c.before.before.before.before.before.before.before.before.before.before in c.line-length.result ≡ lineLength (nat_abs s.args.bands)
-size_is c = let s = c.before.before.before.before.before.before.before.before.before.before in c.line-length.ensures ∙ ap (λ (z : ℤ). lineLength (nat_abs z)) (to_z-of_z s.ranges.bands)
+size_is : (c : tie.After-line-length) → let s = c.before.before.before.before.before.before.before.before.before.before in c.line_length_lem.result ≡ line_length (nat_abs s.args.bands)
+size_is c = let s = c.before.before.before.before.before.before.before.before.before.before in c.line_length_lem.ensures ∙ ap (λ (z : ℤ). line_length (nat_abs z)) (to_z-of_z s.ranges.bands)
 
 cast-count : tie.Need-overflow-cast-count
 cast-count c = let n = counted c.before.before in rw (to_z-of_z c.before.before.before.before.ranges.bands) (n.not_negative, record { fits = omega (arith, n.to) })
@@ -68,11 +68,11 @@ returns-4 c =
     let e = c.before.before.before.before in
     let b = s.args.bands in
     let n = s.args.channels in
-    let late = ap Delay (delay-is (nat_abs b) (size_is c)) in
+    let late = ap Delay (delay_is (nat_abs b) (size_is c)) in
     let long = right e in
     let bands-back = to_z-of_z s.ranges.bands ∙ sym (pos-nat_abs b (counted e.before.before.before.before).not_negative) in
     let channels-back = to_z-of_z s.ranges.channels ∙ sym (pos-nat_abs n (sided e.before.before).not_negative) in
-    let cleared = ap₂ (λ (l : List ℤ) (z : ℤ). set l 1 z) (ap₂ (λ (l : List ℤ) (z : ℤ). set l 0 z) c.before.before.clear.ensures bands-back) channels-back ∙ prepared-is (nat_abs b) (nat_abs n) long in
+    let cleared = ap₂ (λ (l : List ℤ) (z : ℤ). set l 1 z) (ap₂ (λ (l : List ℤ) (z : ℤ). set l 0 z) c.before.before.clear.ensures bands-back) channels-back ∙ prepared_is (nat_abs b) (nat_abs n) long in
     search judging depth 12
 
 pub prepare-spec : {M : Type 1} → statement M

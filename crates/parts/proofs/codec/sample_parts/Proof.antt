@@ -4,9 +4,9 @@ use borrow.Author.Rules.{rules, sfits_of}
 use lib.IntN.{pos}
 use mir.Facts.{to_z-of_z}
 use mir.Syntax.{w32}
-use Rattle.samples.specs.Sample.{sampleAnswer}
+use Rattle.samples.specs.Sample.{sample_answer}
 use Rattle.samples.specs.declared.single.Sample.{Sample}
-use Rattle.encoding.specs.Parts.{valueIn}
+use Rattle.encoding.specs.Parts.{value_in}
 use Rattle.parts.proofs.codec.sample_parts.Statement.{statement}
 use Rattle.parts.proofs.codec.sample_parts.Tie as tie
 
@@ -15,7 +15,7 @@ returns c =
     record {
       number_is = cc;
       place_is = cc;
-      value-is = to_z-of_z {w = w32} (sfits_of {w = w32} c.known-told.given.0.1) ∙ sym (ap (λ (r : Sample). valueIn (pos 0) (sampleAnswer r)) c.before.answer.given.1);
+      value_is = to_z-of_z {w = w32} (sfits_of {w = w32} c.known-told.given.0.1) ∙ sym (ap (λ (r : Sample). value_in (pos 0) (sample_answer r)) c.before.answer.given.1);
     }
 
 pub sample-parts-spec : {M : Type 1} → statement M

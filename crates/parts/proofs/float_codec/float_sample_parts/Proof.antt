@@ -4,9 +4,9 @@ use borrow.Author.Rules.{rules, sfits_of}
 use lib.IntN.{pos}
 use mir.Facts.{to_z-of_z}
 use mir.Syntax.{w32}
-use Rattle.floats.specs.Value.{floatAnswer}
+use Rattle.floats.specs.Value.{float_answer}
 use Rattle.floats.specs.declared.code.FloatSample.{FloatSample}
-use Rattle.encoding.specs.Parts.{valueIn}
+use Rattle.encoding.specs.Parts.{value_in}
 use Rattle.parts.proofs.float_codec.float_sample_parts.Statement.{statement}
 use Rattle.parts.proofs.float_codec.float_sample_parts.Tie as tie
 
@@ -15,7 +15,7 @@ returns c =
     record {
       number_is = cc;
       place_is = cc;
-      value-is = to_z-of_z {w = w32} (sfits_of {w = w32} c.known-told.given.0.1) ∙ sym (ap (λ (r : FloatSample). valueIn (pos 0) (floatAnswer r)) c.before.answer.given.1);
+      value_is = to_z-of_z {w = w32} (sfits_of {w = w32} c.known-told.given.0.1) ∙ sym (ap (λ (r : FloatSample). value_in (pos 0) (float_answer r)) c.before.answer.given.1);
     }
 
 pub float-sample-parts-spec : {M : Type 1} → statement M

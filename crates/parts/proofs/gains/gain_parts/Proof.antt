@@ -6,7 +6,7 @@ use mir.Facts.{to_z-of_z}
 use mir.Syntax.{w32}
 use Rattle.gain.specs.Answer.{answer_of}
 use Rattle.gain.specs.declared.Gained.{Gained}
-use Rattle.encoding.specs.Parts.{valueIn}
+use Rattle.encoding.specs.Parts.{value_in}
 use Rattle.parts.proofs.gains.gain_parts.Statement.{statement}
 use Rattle.parts.proofs.gains.gain_parts.Tie as tie
 
@@ -15,7 +15,7 @@ returns c =
     record {
       number_is = cc;
       place_is = cc;
-      value-is = to_z-of_z {w = w32} (sfits_of {w = w32} c.known-told.given.0.1) ∙ sym (ap (λ (r : Gained). valueIn (pos 0) (answer_of r)) c.before.answer.given.1);
+      value_is = to_z-of_z {w = w32} (sfits_of {w = w32} c.known-told.given.0.1) ∙ sym (ap (λ (r : Gained). value_in (pos 0) (answer_of r)) c.before.answer.given.1);
     }
 
 pub gain-parts-spec : {M : Type 1} → statement M

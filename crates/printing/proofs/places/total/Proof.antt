@@ -11,32 +11,32 @@ use lib.Signed.{mag}
 use mir.Facts.{to_z-of_z}
 use mir.Syntax.{w32}
 use mir.Val.{SFits, to_z, of_z}
-use Rattle.printing.specs.Total.{add, totalFrom}
+use Rattle.printing.specs.Total.{add, total_from}
 use Rattle.printing.proofs.places.total.Statement.{statement}
 use Rattle.printing.proofs.places.total.Tie as tie
 
 abbrev invariant-loop : tie.invariant-loop
 invariant-loop s sum₀ i₀ i-end sum i =
-    (i ≤ i-end) × (i-end ≡ length s) × (sum < 4294967291) × (totalFrom sum i (drop i s) ≡ totalFrom 0 0 s)
+    (i ≤ i-end) × (i-end ≡ length s) × (sum < 4294967291) × (total_from sum i (drop i s) ≡ total_from 0 0 s)
 
 abbrev decreases-loop : tie.decreases-loop
 decreases-loop s sum₀ i₀ i-end sum i = i-end - i
 
-module _ (s : List ℤ) (i sum : ℕ) (so_far : totalFrom sum i (drop i s) ≡ totalFrom 0 0 s) where
-  next : i < length s → totalFrom (add sum i (get_or s i (pos 0))) (i + 1) (drop (i + 1) s) ≡ totalFrom sum i (drop i s)
-  unfolding totalFrom
+module _ (s : List ℤ) (i sum : ℕ) (so_far : total_from sum i (drop i s) ≡ total_from 0 0 s) where
+  next : i < length s → total_from (add sum i (get_or s i (pos 0))) (i + 1) (drop (i + 1) s) ≡ total_from sum i (drop i s)
+  unfolding total_from
   next h =
-      ap (λ (n : ℕ). totalFrom (add sum i (get_or s i (pos 0))) (i + 1) (drop n s)) (add-one i) ∙
-      ap (totalFrom sum i) (sym (drop-cons s i (pos 0) h))
+      ap (λ (n : ℕ). total_from (add sum i (get_or s i (pos 0))) (i + 1) (drop n s)) (add-one i) ∙
+      ap (total_from sum i) (sym (drop-cons s i (pos 0) h))
 
   goes_on : (r : ℕ) → i < length s → mag (get_or s i (pos 0)) < 2 ^ 31 → r ≡ add sum i (to_z w32 (of_z w32 (get_or s i (pos 0)))) →
-      totalFrom r (i + 1) (drop (i + 1) s) ≡ totalFrom 0 0 s
+      total_from r (i + 1) (drop (i + 1) s) ≡ total_from 0 0 s
   goes_on r h f e =
       let g : SFits w32 (get_or s i (pos 0)) = record { sfits = f } in
-      ap (λ (k : ℕ). totalFrom k (i + 1) (drop (i + 1) s)) (e ∙ ap (add sum i) (to_z-of_z g)) ∙ next h ∙ so_far
+      ap (λ (k : ℕ). total_from k (i + 1) (drop (i + 1) s)) (e ∙ ap (add sum i) (to_z-of_z g)) ∙ next h ∙ so_far
 
-  ends : length s ≤ i → sum ≡ totalFrom 0 0 s
-  unfolding totalFrom
+  ends : length s ≤ i → sum ≡ total_from 0 0 s
+  unfolding total_from
   ends h = rw (drop_of_length-le s h) at so_far
 
 loop-holds : tie.Need-loop-init invariant-loop decreases-loop

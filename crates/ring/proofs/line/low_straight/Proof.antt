@@ -2,13 +2,13 @@
 use mathlib.Core.Path.{◌≡◌}
 use lib.Dec.{lit≤}
 use Rattle.tree.specs.Prototype.{published}
-use Rattle.ring.specs.Line.{lineSum}
-use Rattle.ring.proofs.Taps.{summed, read-new, read-tap, back-too, sum-in-reach, low-value-is}
+use Rattle.ring.specs.Line.{line_sum}
+use Rattle.ring.proofs.Taps.{summed, read_new, read-tap, back_too, sum_in_reach, low_value_is}
 use borrow.Author.Rules.{rules}
 use Rattle.ring.proofs.line.low_straight.Statement.{statement}
 use Rattle.ring.proofs.line.low_straight.Tie as tie
 
-the_sum : (c : tie.After-weigh) → let a = c.before.before.before.before.before.before.before.before.before.before.before.args in c.weigh.result ≡ lineSum published a.line.now a.size a.at a.l a.x
+the_sum : (c : tie.After-weigh) → let a = c.before.before.before.before.before.before.before.before.before.before.before.args in c.weigh.result ≡ line_sum published a.line.now a.size a.at a.l a.x
 the_sum c =
     let c10 = c.before in
     let c9 = c10.before in
@@ -24,7 +24,7 @@ the_sum c =
     let a = s.args in
     let line = a.line.now in
     let read = read-tap line a.size a.at a.l a.x in
-    summed line a.size a.at a.l a.x (read-new line a.size a.at a.l s.ranges.x)
+    summed line a.size a.at a.l a.x (read_new line a.size a.at a.l s.ranges.x)
     (read 2 c1.tap-back.result (lit≤ tt) c1.tap-back.ensures c1.tap-back.type-inv)
     (read 4 c2.tap-back2.result (lit≤ tt) c2.tap-back2.ensures c2.tap-back2.type-inv)
     (read 6 c3.tap-back3.result (lit≤ tt) c3.tap-back3.ensures c3.tap-back3.type-inv)
@@ -38,42 +38,42 @@ the_sum c =
     c.weigh.ensures
 
 tap-back-requires-3 : tie.Need-tap-back-requires-3
-tap-back-requires-3 c κs = (c.before.before.requires.0, lit≤ tt, back-too 6 18 c.before.before.args.l c.before.before.args.at (lit≤ tt) c.before.before.requires.1)
+tap-back-requires-3 c κs = (c.before.before.requires.0, lit≤ tt, back_too 6 18 c.before.before.args.l c.before.before.args.at (lit≤ tt) c.before.before.requires.1)
 
 tap-back-requires-4 : tie.Need-tap-back-requires-4
-tap-back-requires-4 c κs = (c.before.before.before.requires.0, lit≤ tt, back-too 8 18 c.before.before.before.args.l c.before.before.before.args.at (lit≤ tt) c.before.before.before.requires.1)
+tap-back-requires-4 c κs = (c.before.before.before.requires.0, lit≤ tt, back_too 8 18 c.before.before.before.args.l c.before.before.before.args.at (lit≤ tt) c.before.before.before.requires.1)
 
 tap-back-requires-5 : tie.Need-tap-back-requires-5
-tap-back-requires-5 c κs = (c.before.before.before.before.requires.0, lit≤ tt, back-too 9 18 c.before.before.before.before.args.l c.before.before.before.before.args.at (lit≤ tt) c.before.before.before.before.requires.1)
+tap-back-requires-5 c κs = (c.before.before.before.before.requires.0, lit≤ tt, back_too 9 18 c.before.before.before.before.args.l c.before.before.before.before.args.at (lit≤ tt) c.before.before.before.before.requires.1)
 
 tap-back-requires-6 : tie.Need-tap-back-requires-6
-tap-back-requires-6 c κs = (c.before.before.before.before.before.requires.0, lit≤ tt, back-too 10 18 c.before.before.before.before.before.args.l c.before.before.before.before.before.args.at (lit≤ tt) c.before.before.before.before.before.requires.1)
+tap-back-requires-6 c κs = (c.before.before.before.before.before.requires.0, lit≤ tt, back_too 10 18 c.before.before.before.before.before.args.l c.before.before.before.before.before.args.at (lit≤ tt) c.before.before.before.before.before.requires.1)
 
 tap-back-requires-7 : tie.Need-tap-back-requires-7
-tap-back-requires-7 c κs = (c.before.before.before.before.before.before.requires.0, lit≤ tt, back-too 12 18 c.before.before.before.before.before.before.args.l c.before.before.before.before.before.before.args.at (lit≤ tt) c.before.before.before.before.before.before.requires.1)
+tap-back-requires-7 c κs = (c.before.before.before.before.before.before.requires.0, lit≤ tt, back_too 12 18 c.before.before.before.before.before.before.args.l c.before.before.before.before.before.before.args.at (lit≤ tt) c.before.before.before.before.before.before.requires.1)
 
 tap-back-requires-8 : tie.Need-tap-back-requires-8
-tap-back-requires-8 c κs = (c.before.before.before.before.before.before.before.requires.0, lit≤ tt, back-too 14 18 c.before.before.before.before.before.before.before.args.l c.before.before.before.before.before.before.before.args.at (lit≤ tt) c.before.before.before.before.before.before.before.requires.1)
+tap-back-requires-8 c κs = (c.before.before.before.before.before.before.before.requires.0, lit≤ tt, back_too 14 18 c.before.before.before.before.before.before.before.args.l c.before.before.before.before.before.before.before.args.at (lit≤ tt) c.before.before.before.before.before.before.before.requires.1)
 
 tap-back-requires-9 : tie.Need-tap-back-requires-9
-tap-back-requires-9 c κs = (c.before.before.before.before.before.before.before.before.requires.0, lit≤ tt, back-too 16 18 c.before.before.before.before.before.before.before.before.args.l c.before.before.before.before.before.before.before.before.args.at (lit≤ tt) c.before.before.before.before.before.before.before.before.requires.1)
+tap-back-requires-9 c κs = (c.before.before.before.before.before.before.before.before.requires.0, lit≤ tt, back_too 16 18 c.before.before.before.before.before.before.before.before.args.l c.before.before.before.before.before.before.before.before.args.at (lit≤ tt) c.before.before.before.before.before.before.before.before.requires.1)
 
 tap-back-requires-10 : tie.Need-tap-back-requires-10
-tap-back-requires-10 c κs = (c.before.before.before.before.before.before.before.before.before.requires.0, lit≤ tt, back-too 18 18 c.before.before.before.before.before.before.before.before.before.args.l c.before.before.before.before.before.before.before.before.before.args.at (lit≤ tt) c.before.before.before.before.before.before.before.before.before.requires.1)
+tap-back-requires-10 c κs = (c.before.before.before.before.before.before.before.before.before.requires.0, lit≤ tt, back_too 18 18 c.before.before.before.before.before.before.before.before.before.args.l c.before.before.before.before.before.before.before.before.before.args.at (lit≤ tt) c.before.before.before.before.before.before.before.before.before.requires.1)
 
 returns : tie.Need-returns
 returns c =
     let w = c.before.before in
     let a = w.before.before.before.before.before.before.before.before.before.before.before.args in
-    low-value-is a.line.now a.size a.at a.l a.x w.weigh.result c.before.nearest-100000.result c.limit-32.result (the_sum w) w.weigh.ensures.size
+    low_value_is a.line.now a.size a.at a.l a.x w.weigh.result c.before.nearest-100000.result c.limit-32.result (the_sum w) w.weigh.ensures.size
     c.before.nearest-100000.ensures c.limit-32.ensures
 
 pub low-straight-spec : {M : Type 1} → statement M
 low-straight-spec =
     tie.close
     (tie.spec
-    (λ c κs. (c.requires.0, lit≤ tt, back-too 2 18 c.args.l c.args.at (lit≤ tt) c.requires.1))
-    (λ c κs. (c.before.requires.0, lit≤ tt, back-too 4 18 c.before.args.l c.before.args.at (lit≤ tt) c.before.requires.1))
+    (λ c κs. (c.requires.0, lit≤ tt, back_too 2 18 c.args.l c.args.at (lit≤ tt) c.requires.1))
+    (λ c κs. (c.before.requires.0, lit≤ tt, back_too 4 18 c.before.args.l c.before.args.at (lit≤ tt) c.before.requires.1))
     tap-back-requires-3
     tap-back-requires-4
     tap-back-requires-5
@@ -83,6 +83,6 @@ low-straight-spec =
     tap-back-requires-9
     tap-back-requires-10
     (λ c κs. search rules)
-    (λ c κs. sum-in-reach c.weigh.result c.weigh.ensures.size)
+    (λ c κs. sum_in_reach c.weigh.result c.weigh.ensures.size)
     (λ c κs. search rules)
     returns)

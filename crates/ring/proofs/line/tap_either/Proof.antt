@@ -2,7 +2,7 @@
 use Prim.Native.Nat.{◌*◌}
 use native.Mathlib.Nat.{mul-le-mul_right}
 use native.Mathlib.Omega.{arith}
-use Rattle.ring.proofs.Taps.{tap-back, tap-round}
+use Rattle.ring.proofs.Taps.{tap-back, tap_round}
 use borrow.Author.Rules.{rules, sfits_of}
 use Rattle.ring.proofs.line.tap_either.Statement.{statement}
 use Rattle.ring.proofs.line.tap_either.Tie as tie
@@ -15,7 +15,7 @@ returns c =
 returns-2 : tie.Need-returns-2
 returns-2 c =
     let s = c.before.before in
-    tap-round s.args.line.now s.args.size s.args.at (s.args.i * s.args.l) c.before.if1.false (sfits_of c.result2.given)
+    tap_round s.args.line.now s.args.size s.args.at (s.args.i * s.args.l) c.before.if1.false (sfits_of c.result2.given)
 
 pub tap-either-spec : {M : Type 1} → statement M
 tap-either-spec =

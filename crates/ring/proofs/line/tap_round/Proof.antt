@@ -2,7 +2,7 @@
 use Prim.Native.Nat.{◌*◌}
 use native.Mathlib.Nat.{mul-le-mul_right}
 use native.Mathlib.Omega.{arith}
-use Rattle.ring.proofs.Taps.{tap-round}
+use Rattle.ring.proofs.Taps.{tap_round}
 use borrow.Author.Rules.{rules, sfits_of}
 use Rattle.ring.proofs.line.tap_round.Statement.{statement}
 use Rattle.ring.proofs.line.tap_round.Tie as tie
@@ -10,7 +10,7 @@ use Rattle.ring.proofs.line.tap_round.Tie as tie
 returns : tie.Need-returns
 returns c =
     let s = c.before in
-    tap-round s.args.line.now s.args.size s.args.at (s.args.i * s.args.l) s.requires.2 (sfits_of c.result.given)
+    tap_round s.args.line.now s.args.size s.args.at (s.args.i * s.args.l) s.requires.2 (sfits_of c.result.given)
 
 pub tap-round-spec : {M : Type 1} → statement M
 tap-round-spec =

@@ -17,4 +17,4 @@ returns c =
     (all c).answer ∙ ap (λ (x : ℤ). s.args.sum +ℤ s.args.c *ℤ x) sum
 
 pub add-pair-spec : {M : Type 1} → statement M
-add-pair-spec = tie.close (tie.spec (λ c κs. search rules) (λ c. (all c).product-fits) (λ c. (all c).sum_fits) returns)
+add-pair-spec = tie.close (tie.spec (λ c κs. search rules) (λ c. (all c).product_fits) (λ c. (all c).sum_fits) returns)

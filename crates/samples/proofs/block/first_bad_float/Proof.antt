@@ -2,7 +2,7 @@
 use mathlib.Core.Path.{refl}
 use Prim.Native.Nat.{◌-◌, ◌*◌}
 use native.Mathlib.Omega.{arith}
-use Rattle.samples.proofs.Judging.{Searched, searched-none, stops, goes_on, ends}
+use Rattle.samples.proofs.Judging.{Searched, searched_none, stops, goes_on, ends}
 use Rattle.samples.proofs.block.first_bad_float.Statement.{statement}
 use Rattle.samples.proofs.block.first_bad_float.Tie as tie
 
@@ -13,7 +13,7 @@ abbrev decreases-loop : tie.decreases-loop
 decreases-loop bytes count i₀ i = count - i
 
 loop-holds : tie.Need-loop-init invariant-loop decreases-loop
-loop-holds c = let a = c.before.args in searched-none a.count a.bytes.now
+loop-holds c = let a = c.before.args in searched_none a.count a.bytes.now
 
 returns : tie.Need-returns invariant-loop decreases-loop
 returns c =
@@ -22,8 +22,8 @@ returns c =
     let r = f.before in
     let l = r.before.before in
     let a = l.before.before.args in
-    stops a.count a.bytes.now l.loop.i l.loop.invariant (4 * l.loop.i) r.four.result s.is-sample.result f.sample-of-code.result
-    r.before.loop-test.true refl r.four.ensures f.sample-of-code.ensures s.is-sample.ensures c.if1.true
+    stops a.count a.bytes.now l.loop.i l.loop.invariant (4 * l.loop.i) r.four.result s.is_sample_lem.result f.sample-of-code.result
+    r.before.loop-test.true refl r.four.ensures f.sample-of-code.ensures s.is_sample_lem.ensures c.if1.true
 
 loop-again : tie.Need-loop-preserved invariant-loop decreases-loop
 loop-again c =
@@ -32,8 +32,8 @@ loop-again c =
     let r = f.before in
     let l = r.before.before in
     let a = l.before.before.args in
-    goes_on a.count a.bytes.now l.loop.i l.loop.invariant (4 * l.loop.i) r.four.result s.is-sample.result f.sample-of-code.result
-    r.before.loop-test.true refl r.four.ensures f.sample-of-code.ensures s.is-sample.ensures c.if1.false
+    goes_on a.count a.bytes.now l.loop.i l.loop.invariant (4 * l.loop.i) r.four.result s.is_sample_lem.result f.sample-of-code.result
+    r.before.loop-test.true refl r.four.ensures f.sample-of-code.ensures s.is_sample_lem.ensures c.if1.false
 
 returns-2 : tie.Need-returns-2 invariant-loop decreases-loop
 returns-2 c =

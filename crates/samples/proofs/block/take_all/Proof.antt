@@ -7,7 +7,7 @@ use lib.ListN.{length}
 use borrow.Author.Rules.{rules}
 use mir.Facts.{to_z-of_z}
 use Rattle.samples.specs.Format.{size_of}
-use Rattle.samples.proofs.Taking.{Taking, taking-start, taking-turn, taking-end, room}
+use Rattle.samples.proofs.Taking.{Taking, taking_start, taking_turn, taking_end, room}
 use Rattle.samples.proofs.block.take_all.Statement.{statement}
 use Rattle.samples.proofs.block.take_all.Tie as tie
 
@@ -18,7 +18,7 @@ abbrev decreases-loop : tie.decreases-loop
 decreases-loop bytes format samples₀ size i₀ at₀ samples i at = length samples₀ - i
 
 loop-holds : tie.Need-loop-init invariant-loop decreases-loop
-loop-holds c = let a = c.before.before.args in taking-start a.format a.bytes.now a.samples.now
+loop-holds c = let a = c.before.before.args in taking_start a.format a.bytes.now a.samples.now
 
 -- the next sample's bytes are there
 bytes_left : (c : tie.In-loop invariant-loop decreases-loop) →
@@ -34,15 +34,15 @@ loop-again : tie.Need-loop-preserved invariant-loop decreases-loop
 loop-again c =
     let at-loop = c.before.before in
     let a = at-loop.before.before.before.args in
-    taking-turn a.format a.bytes.now a.samples.now at-loop.loop.samples at-loop.loop.i at-loop.loop.at _ _ at-loop.loop.invariant
+    taking_turn a.format a.bytes.now a.samples.now at-loop.loop.samples at-loop.loop.i at-loop.loop.at _ _ at-loop.loop.invariant
     c.before.loop-test.true (ap (λ (k : ℕ). at-loop.loop.at + k) at-loop.before.bytes-each.ensures.0)
-    (to_z-of_z (record { sfits = c.sample-at.type-inv }) ∙ c.sample-at.ensures)
+    (to_z-of_z (record { sfits = c.sample_at.type-inv }) ∙ c.sample_at.ensures)
 
 returns : tie.Need-returns invariant-loop decreases-loop
 returns c =
     let at-loop = c.before in
     let a = at-loop.before.before.before.args in
-    taking-end a.format a.bytes.now a.samples.now at-loop.loop.samples at-loop.loop.i at-loop.loop.at at-loop.loop.invariant
+    taking_end a.format a.bytes.now a.samples.now at-loop.loop.samples at-loop.loop.i at-loop.loop.at at-loop.loop.invariant
     c.loop-test.false
 
 pub take_all_spec : {M : Type 1} → statement M

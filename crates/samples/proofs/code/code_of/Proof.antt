@@ -1,6 +1,6 @@
 -- `code::code_of` meets its contract: each branch reads as the number's code.
 -- Assumes nothing.
-use Rattle.samples.proofs.Complement.{sum_fits, code-negative, code-positive, cast-code, cast_is}
+use Rattle.samples.proofs.Complement.{sum_fits, code-negative, code_positive, cast_code, cast_is}
 use Rattle.samples.proofs.code.code_of.Statement.{statement}
 use Rattle.samples.proofs.code.code_of.Tie as tie
 
@@ -11,13 +11,13 @@ cast-result : tie.Need-overflow-cast-result
 cast-result c =
     let e = c.before in
     let z = e.args.sample in
-    cast-code z e.ranges.sample e.requires _ (code-negative z e.ranges.sample e.requires c.if1.true)
+    cast_code z e.ranges.sample e.requires _ (code-negative z e.ranges.sample e.requires c.if1.true)
 
 cast-result-2 : tie.Need-overflow-cast-result-2
 cast-result-2 c =
     let e = c.before in
     let z = e.args.sample in
-    cast-code z e.ranges.sample e.requires _ (code-positive z e.ranges.sample e.requires c.if1.false)
+    cast_code z e.ranges.sample e.requires _ (code_positive z e.ranges.sample e.requires c.if1.false)
 
 returns : tie.Need-returns
 returns c =
@@ -29,7 +29,7 @@ returns-2 : tie.Need-returns-2
 returns-2 c =
     let e = c.before in
     let z = e.args.sample in
-    cast_is z e.ranges.sample e.requires _ (code-positive z e.ranges.sample e.requires c.if1.false)
+    cast_is z e.ranges.sample e.requires _ (code_positive z e.ranges.sample e.requires c.if1.false)
 
 pub code-of-spec : {M : Type 1} → statement M
 code-of-spec = tie.close (tie.spec add-result cast-result cast-result-2 returns returns-2)

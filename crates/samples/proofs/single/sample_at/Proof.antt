@@ -4,10 +4,10 @@ use native.Mathlib.Omega.{arith}
 use lib.ListN.{take, drop}
 use borrow.Author.Rules.{rules}
 use mir.Facts.{to_z-of_z}
-use Rattle.floats.specs.Block.{sampleOr0}
-use Rattle.samples.specs.Sample.{sampleIn}
+use Rattle.floats.specs.Block.{sample_or0}
+use Rattle.samples.specs.Sample.{sample_in}
 use Rattle.samples.specs.Format.{size_of}
-use Rattle.samples.proofs.Codec.{taken-16, taken-24, taken-float}
+use Rattle.samples.proofs.Codec.{taken_16, taken_24, taken_float}
 use Rattle.samples.proofs.single.sample_at.Statement.{statement}
 use Rattle.samples.proofs.single.sample_at.Tie as tie
 
@@ -26,8 +26,8 @@ returns c =
     let told = read.before in
     let a = told.before.before.before.args in
     to_z-of_z (record { sfits = c.number.type-inv }) ∙ c.number.ensures
-    ∙ taken-16 a.bytes.now a.at read.two.result read.two.ensures.1 read.two.ensures.0
-    ∙ sym (ap (λ f. sampleIn f (take (size_of f) (drop a.at a.bytes.now))) told.enum_told.given.1)
+    ∙ taken_16 a.bytes.now a.at read.two.result read.two.ensures.1 read.two.ensures.0
+    ∙ sym (ap (λ f. sample_in f (take (size_of f) (drop a.at a.bytes.now))) told.enum_told.given.1)
 
 returns-2 : tie.Need-returns-2
 returns-2 c =
@@ -35,8 +35,8 @@ returns-2 c =
     let told = read.before in
     let a = told.before.before.before.args in
     to_z-of_z (record { sfits = c.number2.type-inv }) ∙ c.number2.ensures
-    ∙ taken-24 a.bytes.now a.at read.three.result read.three.ensures.0
-    ∙ sym (ap (λ f. sampleIn f (take (size_of f) (drop a.at a.bytes.now))) told.enum-told2.given.1)
+    ∙ taken_24 a.bytes.now a.at read.three.result read.three.ensures.0
+    ∙ sym (ap (λ f. sample_in f (take (size_of f) (drop a.at a.bytes.now))) told.enum-told2.given.1)
 
 returns-3 : tie.Need-returns-3
 returns-3 c =
@@ -44,9 +44,9 @@ returns-3 c =
     let read = float.before in
     let told = read.before in
     let a = told.before.before.before.args in
-    to_z-of_z (record { sfits = c.sample-or-0.type-inv }) ∙ c.sample-or-0.ensures ∙ ap sampleOr0 float.sample-of-code.ensures
-    ∙ taken-float a.bytes.now a.at read.four.result read.four.ensures
-    ∙ sym (ap (λ f. sampleIn f (take (size_of f) (drop a.at a.bytes.now))) told.enum-told3.given.1)
+    to_z-of_z (record { sfits = c.sample-or-0.type-inv }) ∙ c.sample-or-0.ensures ∙ ap sample_or0 float.sample-of-code.ensures
+    ∙ taken_float a.bytes.now a.at read.four.result read.four.ensures
+    ∙ sym (ap (λ f. sample_in f (take (size_of f) (drop a.at a.bytes.now))) told.enum-told3.given.1)
 
 pub sample-at-spec : {M : Type 1} → statement M
 sample-at-spec =

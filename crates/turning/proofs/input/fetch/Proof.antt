@@ -1,5 +1,5 @@
 -- `input::fetch` meets its contract: what was carried, and what came in behind it. Assumes nothing.
-use Rattle.turning.proofs.Fetching.{carried-within, came-in}
+use Rattle.turning.proofs.Fetching.{carried-within, came_in}
 use borrow.Author.Rules.{rules}
 use Rattle.turning.proofs.input.fetch.Statement.{statement}
 use Rattle.turning.proofs.input.fetch.Tie as tie
@@ -15,7 +15,7 @@ returns c =
     let fill = c.before.before in
     let call = fill.before.before.before.before in
     let a = call.before.before.before.before.args in
-    came-in a.front.now a.bytes.now a.from call.carry.result call.carry.new.1.1.0 call.carry.ensures
+    came_in a.front.now a.bytes.now a.from call.carry.result call.carry.new.1.1.0 call.carry.ensures
     fill.fill.result fill.fill.new.0 fill.fill.ensures fill.fill.auto.0 c.slice-known3.given
 
 pub fetch_spec : {M : Type 1} → statement M

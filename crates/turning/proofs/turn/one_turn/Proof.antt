@@ -6,7 +6,7 @@ use lib.ListN.{take, drop}
 use lib.Seq.{length-take-le}
 use Rattle.turning.specs.declared.turn.Handed.{Handed}
 use Rattle.turning.specs.Running.{PutDone}
-use Rattle.turning.proofs.Standing.{limits, at-fits, read_fits, start_fits, wanted-there, got-few, got-there, piece-long, piece-came, further}
+use Rattle.turning.proofs.Standing.{limits, at_fits, read_fits, start_fits, wanted_there, got_few, got_there, piece_long, piece_came, further}
 use borrow.Author.Rules.{rules}
 use Rattle.turning.proofs.turn.one_turn.Statement.{statement}
 use Rattle.turning.proofs.turn.one_turn.Tie as tie
@@ -21,7 +21,7 @@ array-borrow-prefix-bytes c =
     let b = c.before.before in
     let t = b.before in
     let s = t.before.before in
-    wanted-there s.requires t.next-turn.ensures b.bytes.ensures
+    wanted_there s.requires t.next-turn.ensures b.bytes.ensures
 
 array-share-prefix-bytes : tie.Need-array-share-prefix-bytes
 array-share-prefix-bytes c =
@@ -29,7 +29,7 @@ array-share-prefix-bytes c =
     let b = f.before.before.before.before in
     let t = b.before in
     let s = t.before.before in
-    got-there s.requires t.next-turn.ensures b.bytes.ensures f.fetch.result f.fetch.new.1.1.0 f.fetch.auto.1.1.0 f.fetch.ensures.1.0
+    got_there s.requires t.next-turn.ensures b.bytes.ensures f.fetch.result f.fetch.new.1.1.0 f.fetch.auto.1.1.0 f.fetch.ensures.1.0
 
 put-requires : tie.Need-put-requires
 put-requires c κs =
@@ -37,7 +37,7 @@ put-requires c κs =
     let b = f.before.before.before.before in
     let t = b.before in
     let s = t.before.before in
-    piece-came s.requires t.next-turn.ensures b.bytes.ensures f.fetch.result f.fetch.new.1.1.0 f.fetch.auto.1.1.0 f.fetch.ensures.1.0 f.fetch.ensures.0 f.fetch.ensures.1.1
+    piece_came s.requires t.next-turn.ensures b.bytes.ensures f.fetch.result f.fetch.new.1.1.0 f.fetch.auto.1.1.0 f.fetch.ensures.1.0 f.fetch.ensures.0 f.fetch.ensures.1.1
 
 add-t22 : tie.Need-overflow-add-t22
 add-t22 c =
@@ -45,7 +45,7 @@ add-t22 c =
     let t = f.before.before.before.before.before in
     let s = t.before.before in
     let l = limits s.requires t.next-turn.ensures in
-    at-fits s.requires _ (omega (arith, l.fed-few, l.skipped-most))
+    at_fits s.requires _ (omega (arith, l.fed_few, l.skipped_most))
 
 add-t23 : tie.Need-overflow-add-t23
 add-t23 c =
@@ -53,7 +53,7 @@ add-t23 c =
     let b = f.before.before.before.before in
     let t = b.before in
     let s = t.before.before in
-    read_fits s.requires t.next-turn.ensures f.fetch.result (got-few s.requires t.next-turn.ensures b.bytes.ensures f.fetch.result f.fetch.new.1.1.0 f.fetch.auto.1.1.0 f.fetch.ensures.1.0)
+    read_fits s.requires t.next-turn.ensures f.fetch.result (got_few s.requires t.next-turn.ensures b.bytes.ensures f.fetch.result f.fetch.new.1.1.0 f.fetch.auto.1.1.0 f.fetch.ensures.1.0)
 
 returns : tie.Need-returns
 returns c =
@@ -65,9 +65,9 @@ returns c =
     let s = t.before.before in
     let a = s.args in
     let piece = take f.fetch.result (f.fetch.new.1.1.0 ++ drop t.next-turn.result.wanted b.bytes.result) in
-    let arrived = piece-came s.requires t.next-turn.ensures b.bytes.ensures f.fetch.result f.fetch.new.1.1.0 f.fetch.auto.1.1.0 f.fetch.ensures.1.0 f.fetch.ensures.0 f.fetch.ensures.1.1 in
+    let arrived = piece_came s.requires t.next-turn.ensures b.bytes.ensures f.fetch.result f.fetch.new.1.1.0 f.fetch.auto.1.1.0 f.fetch.ensures.1.0 f.fetch.ensures.0 f.fetch.ensures.1.1 in
     let done = subst (λ (r : Handed). PutDone a.job a.gains.now a.front.now a.place a.memory.now piece r put.put.new.1.1.1.1.0) told.enum_told.given.1 put.put.ensures in
-    further f.fetch.result (record { arrived = arrived; numbers = done.0 }) (piece-long s.requires t.next-turn.ensures b.bytes.ensures f.fetch.result f.fetch.new.1.1.0 f.fetch.auto.1.1.0 f.fetch.ensures.1.0) done.1
+    further f.fetch.result (record { arrived = arrived; numbers = done.0 }) (piece_long s.requires t.next-turn.ensures b.bytes.ensures f.fetch.result f.fetch.new.1.1.0 f.fetch.auto.1.1.0 f.fetch.ensures.1.0) done.1
 
 returns-2 : tie.Need-returns-2
 returns-2 c =
@@ -89,7 +89,7 @@ returns-3 c =
     let s = t.before.before in
     let a = s.args in
     let piece = take f.fetch.result (f.fetch.new.1.1.0 ++ drop t.next-turn.result.wanted b.bytes.result) in
-    let arrived = piece-came s.requires t.next-turn.ensures b.bytes.ensures f.fetch.result f.fetch.new.1.1.0 f.fetch.auto.1.1.0 f.fetch.ensures.1.0 f.fetch.ensures.0 f.fetch.ensures.1.1 in
+    let arrived = piece_came s.requires t.next-turn.ensures b.bytes.ensures f.fetch.result f.fetch.new.1.1.0 f.fetch.auto.1.1.0 f.fetch.ensures.1.0 f.fetch.ensures.0 f.fetch.ensures.1.1 in
     let numbers = subst (λ (r : Handed). PutDone a.job a.gains.now a.front.now a.place a.memory.now piece r put.put.new.1.1.1.1.0) c.enum-told3.given.1 put.put.ensures in
     record { place = a.place; memory = a.memory.now; turn = t.next-turn.result; piece = piece; came = record { arrived = arrived; numbers = numbers } }
 

@@ -4,9 +4,9 @@ use Prim.Native.Nat.{◌*◌}
 use native.Mathlib.Omega.{arith}
 use lib.ListN.{length, take}
 use lib.Seq.{length-take-le}
-use Rattle.eqfile.specs.Data.{samplesFrom}
+use Rattle.eqfile.specs.Data.{samples_from}
 use Rattle.turning.specs.Running.{Came}
-use Rattle.turning.proofs.Storing.{samples-few, skipped-few, stopped, came, sampled, samples-there, bytes-there, memory-is, not-refused, stored_there, due}
+use Rattle.turning.proofs.Storing.{samples_few, skipped_few, stopped, came, sampled, samples_there, bytes_there, memory_is, not_refused, stored_there, due}
 use borrow.Author.Rules.{rules}
 use Rattle.turning.proofs.turn.put.Statement.{statement}
 use Rattle.turning.proofs.turn.put.Tie as tie
@@ -15,20 +15,20 @@ mul-fed : tie.Need-overflow-mul-fed
 mul-fed c =
     let n = c.before in
     let s = n.before.before.before.before.before in
-    omega (arith, samples-few s.requires n.channel-count.ensures.0)
+    omega (arith, samples_few s.requires n.channel-count.ensures.0)
 
 mul-skipped : tie.Need-overflow-mul-skipped
 mul-skipped c =
     let n = c.before.before in
     let s = n.before.before.before.before.before in
-    omega (arith, skipped-few s.requires n.channel-count.ensures.0)
+    omega (arith, skipped_few s.requires n.channel-count.ensures.0)
 
 array-borrow-prefix-input : tie.Need-array-borrow-prefix-input
 array-borrow-prefix-input c =
     let n = c.before.before in
     let b = n.before in
     let s = b.before.before.before.before in
-    omega (arith, b.before.samples.ensures, samples-few s.requires n.channel-count.ensures.0)
+    omega (arith, b.before.samples.ensures, samples_few s.requires n.channel-count.ensures.0)
 
 returns : tie.Need-returns
 returns c =
@@ -50,7 +50,7 @@ all-numbers c =
 
 -- .. and all were taken
 taken : (c : tie.Else1) → let sf = c.before.before in let n = sf.before.before.before.before in let b = n.before in let a = b.before.before.before.before.args in
-    sf.samples-from.new.1.1.0 ≡ samplesFrom (length (take (n.channel-count.result * a.turn.fed) b.before.samples.result)) a.job.format a.piece.now
+    sf.samples-from.new.1.1.0 ≡ samples_from (length (take (n.channel-count.result * a.turn.fed) b.before.samples.result)) a.job.format a.piece.now
 taken c =
     let sf = c.before.before in
     let n = sf.before.before.before.before in
@@ -66,7 +66,7 @@ array-share-prefix-input c =
     let b = n.before in
     let k = all-numbers left in
     let x = taken left in
-    samples-there k n.channel-count.ensures.0 b.before.samples.result b.before.samples.ensures b.bytes.ensures x
+    samples_there k n.channel-count.ensures.0 b.before.samples.result b.before.samples.ensures b.bytes.ensures x
 
 array-borrow-prefix-stored : tie.Need-array-borrow-prefix-stored
 array-borrow-prefix-stored c =
@@ -76,7 +76,7 @@ array-borrow-prefix-stored c =
     let b = n.before in
     let k = all-numbers left in
     let x = taken left in
-    bytes-there k n.channel-count.ensures.0 b.before.samples.result b.before.samples.ensures b.bytes.ensures x
+    bytes_there k n.channel-count.ensures.0 b.before.samples.result b.before.samples.ensures b.bytes.ensures x
 
 count-requires : tie.Need-count-requires
 count-requires c κs =
@@ -87,7 +87,7 @@ count-requires c κs =
     let b = n.before in
     let k = all-numbers left in
     let x = taken left in
-    not-refused k n.channel-count.ensures.0 b.before.samples.result b.before.samples.ensures b.bytes.ensures x e.equalise.ensures
+    not_refused k n.channel-count.ensures.0 b.before.samples.result b.before.samples.ensures b.bytes.ensures x e.equalise.ensures
 
 array-share-prefix-stored : tie.Need-array-share-prefix-stored
 array-share-prefix-stored c =
@@ -122,7 +122,7 @@ returns-2 c =
     let b = n.before in
     let k = all-numbers left in
     let x = taken left in
-    (k.numbers, memory-is k n.channel-count.ensures.0 b.before.samples.result b.before.samples.ensures b.bytes.ensures x e.equalise.ensures)
+    (k.numbers, memory_is k n.channel-count.ensures.0 b.before.samples.result b.before.samples.ensures b.bytes.ensures x e.equalise.ensures)
 
 returns-3 : tie.Need-returns-3
 returns-3 c =

@@ -1,6 +1,6 @@
 -- `chunk::extra_in` meets its contract: the longer `fmt ` has two bytes more. Assumes nothing.
 use native.Mathlib.Omega.{arith}
-use Rattle.wave.proofs.Chunks.{no_extra, some-extra}
+use Rattle.wave.proofs.Chunks.{no_extra, some_extra}
 use Rattle.wave.proofs.chunk.extra_in.Statement.{statement}
 use Rattle.wave.proofs.chunk.extra_in.Tie as tie
 
@@ -12,7 +12,7 @@ returns c =
 returns-2 : tie.Need-returns-2
 returns-2 c =
     let size = c.before.before in
-    some-extra size.before.before.args.rest.now size.size_in.result size.size_in.ensures c.two.result c.before.if1.false c.two.ensures.0
+    some_extra size.before.before.args.rest.now size.size_in.result size.size_in.ensures c.two.result c.before.if1.false c.two.ensures.0
 
 pub extra-in-spec : {M : Type 1} → statement M
 extra-in-spec =

@@ -8,12 +8,12 @@ use lib.ListN.{length, take}
 use lib.Seq.{length-take-le, take_all}
 use borrow.Author.Rules.{rules}
 use Rattle.answers.specs.Answer.{Answer, refused}
-use Rattle.answers.specs.Unit.{frontLength}
+use Rattle.answers.specs.Unit.{front_length}
 use Rattle.fields.specs.Bytes.{lowest}
 use Rattle.fields.proofs.ByTest.{by_order}
-use Rattle.chunks.specs.Walk.{formLength, isForm, walk}
+use Rattle.chunks.specs.Walk.{form_length, is_form, walk}
 use Rattle.wave.specs.Names.{riff, wave}
-use Rattle.wave.specs.Walk.{Found, nothing, chunk, find, findOf}
+use Rattle.wave.specs.Walk.{Found, nothing, chunk, find, find_of}
 use Rattle.wave.proofs.finder.find.Statement.{statement}
 use Rattle.wave.proofs.finder.find.Tie as tie
 
@@ -24,14 +24,14 @@ take-least s k n e =
     (λ l. let all : n ≡ k = omega arith in ap (λ (i : ℕ). take i s) all)
     (λ l. take_all n s (omega arith) ∙ sym (take_all k s l))
 
-module _ (s : List ℕ) (n : ℕ) (least : n ≡ min (length s) frontLength) (r : Bool) (is : r ≡ isForm (take n s) riff wave) where
-  finds : (answer : Answer Found) → r ≡ true → answer ≡ walk lowest (refused 24 0) chunk (length (take n s)) (take n s) formLength nothing → answer ≡ findOf s
-  unfolding findOf find
-  finds answer h e = rw (← take-least s frontLength n least) (rw (sym is ∙ h) e)
+module _ (s : List ℕ) (n : ℕ) (least : n ≡ min (length s) front_length) (r : Bool) (is : r ≡ is_form (take n s) riff wave) where
+  finds : (answer : Answer Found) → r ≡ true → answer ≡ walk lowest (refused 24 0) chunk (length (take n s)) (take n s) form_length nothing → answer ≡ find_of s
+  unfolding find_of find
+  finds answer h e = rw (← take-least s front_length n least) (rw (sym is ∙ h) e)
 
-  not-wave : r ≡ false → refused 21 0 ≡ findOf s
-  unfolding findOf find
-  not-wave h = rw (← take-least s frontLength n least) (rw (sym is ∙ h))
+  not-wave : r ≡ false → refused 21 0 ≡ find_of s
+  unfolding find_of find
+  not-wave h = rw (← take-least s front_length n least) (rw (sym is ∙ h))
 
 pub find_spec : {M : Type 1} → statement M
 find_spec =

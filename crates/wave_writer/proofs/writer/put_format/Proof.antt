@@ -1,6 +1,6 @@
 -- `writer::put_format` meets its contract: six numbers, one behind the other. Assumes nothing.
 use borrow.Author.Rules.{rules}
-use Rattle.wave_values.proofs.RightValues.{product-fits}
+use Rattle.wave_values.proofs.RightValues.{product_fits}
 use Rattle.wave_writer.proofs.Writing.{fmt-row}
 use Rattle.wave_writer.proofs.writer.put_format.Statement.{statement}
 use Rattle.wave_writer.proofs.writer.put_format.Tie as tie
@@ -28,7 +28,7 @@ put-format-spec =
     (λ c κs. search rules)
     (λ c κs. search rules)
     (λ c κs. search rules)
-    (λ c. search product-fits)
+    (λ c. search product_fits)
     (λ c κs. search rules)
     (λ c κs. search rules)
     (λ c κs. search rules)

@@ -2,7 +2,7 @@
 use Prim.Native.Nat.{◌-◌}
 use native.Mathlib.Omega.{arith}
 use lib.ListN.{length}
-use Rattle.weighing.proofs.Differing.{Finding, finding-starts, finding-on, finding-ends}
+use Rattle.weighing.proofs.Differing.{Finding, finding_starts, finding_on, finding_ends}
 use Rattle.weighing.proofs.differences.differences.Statement.{statement}
 use Rattle.weighing.proofs.differences.differences.Tie as tie
 
@@ -13,7 +13,7 @@ abbrev decreases-loop : tie.decreases-loop
 decreases-loop gains found₀ i₀ found i = length gains - i
 
 loop-holds : tie.Need-loop-init invariant-loop decreases-loop
-loop-holds c = finding-starts c.args.gains.now
+loop-holds c = finding_starts c.args.gains.now
 
 difference-requires : tie.Need-difference-requires invariant-loop decreases-loop
 difference-requires c κs = (c.loop-test.true, c.before.before.requires)
@@ -34,10 +34,10 @@ loop-again : tie.Need-loop-preserved invariant-loop decreases-loop
 loop-again c =
     let s = c.before.before.before in
     let l = c.before.before.loop in
-    finding-on s.args.gains.now l.found l.i l.invariant c.difference.result c.before.loop-test.true s.requires.counted c.difference.ensures.0 c.difference.ensures.1
+    finding_on s.args.gains.now l.found l.i l.invariant c.difference.result c.before.loop-test.true s.requires.counted c.difference.ensures.0 c.difference.ensures.1
 
 returns : tie.Need-returns invariant-loop decreases-loop
-returns c = finding-ends c.before.before.args.gains.now c.before.loop.found c.before.loop.i c.before.loop.invariant c.loop-test.false
+returns c = finding_ends c.before.before.args.gains.now c.before.loop.found c.before.loop.i c.before.loop.invariant c.loop-test.false
 
 pub differences-spec : {M : Type 1} → statement M
 differences-spec =

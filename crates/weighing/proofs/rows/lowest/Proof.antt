@@ -3,7 +3,7 @@ use Prim.Native.Nat.{◌-◌}
 use native.Mathlib.Omega.{arith}
 use borrow.Author.Rules.{rules, sfits_of}
 use Rattle.weighing.specs.Helpers.{Below}
-use Rattle.weighing.proofs.Counting.{nought, below-starts, below_on}
+use Rattle.weighing.proofs.Counting.{nought, below_starts, below_on}
 use Rattle.weighing.proofs.rows.lowest.Statement.{statement}
 use Rattle.weighing.proofs.rows.lowest.Tie as tie
 
@@ -28,7 +28,7 @@ lowest-spec =
     (tie.spec
     invariant-loop
     decreases-loop
-    (λ c. below-starts c.args.top c.args.differences.now)
+    (λ c. below_starts c.args.top c.args.differences.now)
     mul-if1
     element-copy-out-if1
     (λ c. c.before.before.before.loop.invariant)

@@ -6,7 +6,7 @@ use lib.ListN.{get_or}
 use lib.IntN.{pos}
 use mir.Syntax.{w64}
 use mir.Val.{to_z}
-use Rattle.weighing.proofs.GainSums.{Summing, summing-starts, sum_room, weight-room, place-within, summing_on, summing-ends}
+use Rattle.weighing.proofs.GainSums.{Summing, summing_starts, sum_room, weight_room, place-within, summing_on, summing_ends}
 use Rattle.weighing.proofs.rows.sum_at.Statement.{statement}
 use Rattle.weighing.proofs.rows.sum_at.Tie as tie
 
@@ -17,7 +17,7 @@ abbrev decreases-loop : tie.decreases-loop
 decreases-loop rows bands top low i differences sum₀ b₀ at₀ sum b at = b
 
 loop-holds : tie.Need-loop-init invariant-loop decreases-loop
-loop-holds c = let a = c.args in summing-starts a.bands a.top a.i a.rows.now a.differences.now c.requires.4 c.requires.5
+loop-holds c = let a = c.args in summing_starts a.bands a.top a.i a.rows.now a.differences.now c.requires.4 c.requires.5
 
 sub-b : tie.Need-overflow-sub-b invariant-loop decreases-loop
 sub-b c = search rules
@@ -47,7 +47,7 @@ multiply-add-requires c κs =
     let s = c.before.before.before.before.before in
     let a = s.args in (
       sum_room l.invariant s.requires.0,
-      weight-room (get_or a.differences.now (l.b - 1) (pos 0)) (s.requires.3.range (l.b - 1)) (sfits_of c.before.before.widen-arg.given) c.before.widen.ensures,
+      weight_room (get_or a.differences.now (l.b - 1) (pos 0)) (s.requires.3.range (l.b - 1)) (sfits_of c.before.before.widen-arg.given) c.before.widen.ensures,
     )
 
 add-at-2 : tie.Need-overflow-add-at-2 invariant-loop decreases-loop
@@ -71,7 +71,7 @@ returns c =
     let l = c.before.loop in
     let s = c.before.before in
     let a = s.args in
-    summing-ends l.invariant s.requires.0 s.requires.6 c.loop-test.false
+    summing_ends l.invariant s.requires.0 s.requires.6 c.loop-test.false
 
 pub sum-at-spec : {M : Type 1} → statement M
 sum-at-spec =

@@ -4,18 +4,18 @@ use native.Mathlib.Omega.{arith}
 use borrow.Author.Rules.{rules}
 use lib.ListN.{length}
 use lib.IntN.{ℤ}
-use Rattle.lines.specs.Rows.{rowPlaces}
+use Rattle.lines.specs.Rows.{row_places}
 use Rattle.frames.specs.Frames.{side}
 use Rattle.frames.proofs.Laws.{place_inside, side-length}
-use Rattle.frames.proofs.Loops.{Putting, putting-starts, putting-on, put-here, put-others}
+use Rattle.frames.proofs.Loops.{Putting, putting_starts, putting_on, put_here, put_others}
 use Rattle.weighing.specs.Weighing.{out_of}
-use Rattle.weighing.specs.Helpers.{gainSum}
-use Rattle.weighing.proofs.GainSums.{done-room, out-back, outputs-weighed}
+use Rattle.weighing.specs.Helpers.{gain_sum}
+use Rattle.weighing.proofs.GainSums.{done_room, out_back, outputs_weighed}
 use Rattle.weighing.proofs.rows.weigh_rows.Statement.{statement}
 use Rattle.weighing.proofs.rows.weigh_rows.Tie as tie
 
 abbrev invariant-loop : tie.invariant-loop
-invariant-loop rows bands top low differences channels s n output₀ i₀ output i = Putting channels s (λ j. out_of (gainSum bands bands j rows differences)) output₀ output i
+invariant-loop rows bands top low differences channels s n output₀ i₀ output i = Putting channels s (λ j. out_of (gain_sum bands bands j rows differences)) output₀ output i
 
 abbrev decreases-loop : tie.decreases-loop
 decreases-loop rows bands top low differences channels s n output₀ i₀ output i = n - i
@@ -23,10 +23,10 @@ decreases-loop rows bands top low differences channels s n output₀ i₀ output
 loop-holds : tie.Need-loop-init invariant-loop decreases-loop
 loop-holds c =
     let a = c.args in
-    putting-starts a.channels a.s (λ j. out_of (gainSum a.bands a.bands j a.rows.now a.differences.now)) a.output.now
+    putting_starts a.channels a.s (λ j. out_of (gain_sum a.bands a.bands j a.rows.now a.differences.now)) a.output.now
 
 -- a sample of the row is one of the matrix
-row-short : (c : tie.In-loop invariant-loop decreases-loop) → c.before.loop.i < rowPlaces
+row-short : (c : tie.In-loop invariant-loop decreases-loop) → c.before.loop.i < row_places
 row-short c = omega (arith, c.loop-test.true, c.before.before.requires.2)
 
 -- its place in the output
@@ -41,7 +41,7 @@ sum-at-requires : tie.Need-sum-at-requires invariant-loop decreases-loop
 sum-at-requires c κs = let s = c.before.before in (s.requires.1, row-short c, s.requires.3, s.requires.4, s.requires.5, s.requires.6, s.requires.7)
 
 nearest-4096-requires : tie.Need-nearest-4096-requires invariant-loop decreases-loop
-nearest-4096-requires c κs = done-room c.before.before.before.requires.1 c.sum-at.ensures
+nearest-4096-requires c κs = done_room c.before.before.before.requires.1 c.sum-at.ensures
 
 mul-t15 : tie.Need-overflow-mul-t15 invariant-loop decreases-loop
 mul-t15 c = let h = inside c.before.before.before in search rules
@@ -63,21 +63,21 @@ loop-again c =
     let s = c.before.before.before.before.before in
     let l = c.before.before.before.before.loop in
     let a = s.args in
-    putting-on a.channels a.s (λ j. out_of (gainSum a.bands a.bands j a.rows.now a.differences.now)) a.output.now l.invariant s.requires.8 a.n _ c.before.before.before.loop-test.true s.requires.9
-    (out-back s.requires.1 c.before.before.sum-at.ensures c.before.nearest-4096.ensures c.limit-24.ensures)
+    putting_on a.channels a.s (λ j. out_of (gain_sum a.bands a.bands j a.rows.now a.differences.now)) a.output.now l.invariant s.requires.8 a.n _ c.before.before.before.loop-test.true s.requires.9
+    (out_back s.requires.1 c.before.before.sum-at.ensures c.before.nearest-4096.ensures c.limit-24.ensures)
 
 returns : tie.Need-returns invariant-loop decreases-loop
 returns c =
     let s = c.before.before in
     let l = c.before.loop in
     let a = s.args in
-    let f : ℕ → ℤ = λ j. out_of (gainSum a.bands a.bands j a.rows.now a.differences.now) in
+    let f : ℕ → ℤ = λ j. out_of (gain_sum a.bands a.bands j a.rows.now a.differences.now) in
     let outs = side a.channels a.s a.n l.output in
     record {
       weighed =
-          outputs-weighed a.bands a.rows.now a.differences.now outs s.requires.0
-          (λ j h. put-here a.channels a.s f a.output.now l.invariant s.requires.8 a.n j c.loop-test.false (omega (arith, side-length a.channels a.s a.n l.output)));
-      others = λ t h q. put-others a.channels a.s f a.output.now l.invariant s.requires.8 a.n t h q;
+          outputs_weighed a.bands a.rows.now a.differences.now outs s.requires.0
+          (λ j h. put_here a.channels a.s f a.output.now l.invariant s.requires.8 a.n j c.loop-test.false (omega (arith, side-length a.channels a.s a.n l.output)));
+      others = λ t h q. put_others a.channels a.s f a.output.now l.invariant s.requires.8 a.n t h q;
     }
 
 pub weigh-rows-spec : {M : Type 1} → statement M

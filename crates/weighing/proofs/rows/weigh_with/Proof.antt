@@ -1,7 +1,7 @@
 -- `rows::weigh_with` meets its contract. Assumes nothing.
 use native.Mathlib.Omega.{arith}
 use borrow.Author.Rules.{rules}
-use Rattle.weighing.proofs.GainSums.{under-gains}
+use Rattle.weighing.proofs.GainSums.{under_gains}
 use Rattle.weighing.proofs.rows.weigh_with.Statement.{statement}
 use Rattle.weighing.proofs.rows.weigh_with.Tie as tie
 
@@ -15,7 +15,7 @@ weigh-rows-requires c κs =
 returns : tie.Need-returns
 returns c =
     let s = c.before.before.before.before.before.before.before in
-    under-gains s.args.gains.now s.requires.0.counted c.before.before.before.before.before.before.differences.ensures.0 c.before.weigh-rows.ensures
+    under_gains s.args.gains.now s.requires.0.counted c.before.before.before.before.before.before.differences.ensures.0 c.before.weigh-rows.ensures
 
 pub weigh-with-spec : {M : Type 1} → statement M
 weigh-with-spec =

@@ -2,7 +2,7 @@
 use mathlib.Core.Path.{◌≡◌, refl, sym, ap, ◌∙◌}
 use Prim.Native.Nat.{ℕ, ◌≤◌, ◌-◌}
 use native.Mathlib.Omega.{arith}
-use Rattle.whole.proofs.Clearing.{clear-more}
+use Rattle.whole.proofs.Clearing.{clear_more}
 use lib.ListN.{length, take, replicate, length-set}
 use lib.Seq.{take_all}
 use lib.IntN.{pos}
@@ -33,7 +33,7 @@ loop-less c = simp length-set (omega arith)
 loop-again : tie.Need-loop-preserved invariant-loop decreases-loop
 loop-again c =
     let l = c.before.loop in
-    (length-set l.s l.i (pos 0) ∙ l.invariant.0, simp length-set (omega arith), clear-more l.s l.i c.loop-test.true l.invariant.2)
+    (length-set l.s l.i (pos 0) ∙ l.invariant.0, simp length-set (omega arith), clear_more l.s l.i c.loop-test.true l.invariant.2)
 
 same_length : tie.Need-same-length invariant-loop decreases-loop
 same_length c = c.before.loop.invariant.0

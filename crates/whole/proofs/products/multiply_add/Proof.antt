@@ -13,7 +13,7 @@ cast-result : tie.Need-overflow-cast-result
 cast-result c = (widens c.ranges.x).wide_fits
 
 mul-result : tie.Need-overflow-mul-result
-mul-result c = (all c).product-fits
+mul-result c = (all c).product_fits
 
 add-result : tie.Need-overflow-add-result
 add-result c = (all c).sum_fits

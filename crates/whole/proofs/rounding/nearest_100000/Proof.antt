@@ -6,7 +6,7 @@ use lib.Dec.{lit<, lit≤}
 use lib.IntN.{◌+ℤ◌}
 use mir.Syntax.{w64}
 use mir.Val.{to_z}
-use Rattle.whole.proofs.Rounded.{raw, Rounds, rounds-below, rounds-above}
+use Rattle.whole.proofs.Rounded.{raw, Rounds, rounds_below, rounds_above}
 use Rattle.whole.proofs.rounding.nearest_100000.Statement.{statement}
 use Rattle.whole.proofs.rounding.nearest_100000.Tie as tie
 
@@ -15,8 +15,8 @@ rounded c =
     let s = c.before in
     let at : ℕ → Type 0 = λ k. Rounds 100000 s.args.z (raw w64 s.args.z +ℤ to_z w64 k) in
     ⊎_elim
-    (λ w. subst at (sym w.1) (rounds-below 100000 49999 s.args.z (lit< tt) (lit≤ tt) s.ranges.z s.requires refl w.0.taken))
-    (λ w. subst at (sym w.1) (rounds-above 100000 50000 s.args.z (lit< tt) (lit≤ tt) s.ranges.z s.requires refl w.0.left))
+    (λ w. subst at (sym w.1) (rounds_below 100000 49999 s.args.z (lit< tt) (lit≤ tt) s.ranges.z s.requires refl w.0.taken))
+    (λ w. subst at (sym w.1) (rounds_above 100000 50000 s.args.z (lit< tt) (lit≤ tt) s.ranges.z s.requires refl w.0.left))
     c.if1.branch
 
 returns : tie.Need-returns

@@ -7,7 +7,7 @@ use lib.IntN.{◌+ℤ◌}
 use mir.Syntax.{w64}
 use mir.Val.{to_z}
 use Rattle.answers.specs.Unit.{unity}
-use Rattle.whole.proofs.Rounded.{raw, Rounds, rounds-below, rounds-above}
+use Rattle.whole.proofs.Rounded.{raw, Rounds, rounds_below, rounds_above}
 use Rattle.whole.proofs.rounding.nearest_4096.Statement.{statement}
 use Rattle.whole.proofs.rounding.nearest_4096.Tie as tie
 
@@ -16,8 +16,8 @@ rounded c =
     let s = c.before in
     let at : ℕ → Type 0 = λ k. Rounds unity s.args.z (raw w64 s.args.z +ℤ to_z w64 k) in
     ⊎_elim
-    (λ w. subst at (sym w.1) (rounds-below unity 2047 s.args.z (lit< tt) (lit≤ tt) s.ranges.z s.requires refl w.0.taken))
-    (λ w. subst at (sym w.1) (rounds-above unity 2048 s.args.z (lit< tt) (lit≤ tt) s.ranges.z s.requires refl w.0.left))
+    (λ w. subst at (sym w.1) (rounds_below unity 2047 s.args.z (lit< tt) (lit≤ tt) s.ranges.z s.requires refl w.0.taken))
+    (λ w. subst at (sym w.1) (rounds_above unity 2048 s.args.z (lit< tt) (lit≤ tt) s.ranges.z s.requires refl w.0.left))
     c.if1.branch
 
 returns : tie.Need-returns
