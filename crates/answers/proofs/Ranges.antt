@@ -68,13 +68,13 @@ module _ {lo hi : ℤ} (s : List ℤ) (i : ℕ) (fl : SFits w32 lo) (fh : SFits 
   plain : first_outside (raw lo) (raw hi) s ≡ first_outside lo hi s
   plain = ap₂ (λ (a b : ℤ). first_outside a b s) (to_z-of_z fl) (to_z-of_z fh)
 
-  pub stops : {r : Bool} → i < length s → mag (get_or s i (pos 0)) < 2 ^ 31 → r ≡ within (raw lo) (raw hi) (raw (get_or s i (pos 0))) → not r ≡ true →
+  pub stops : {r : Bool} → i < length s → mag (get_or s i (pos 0)) < 2 ^ 31 → r ≡ within (raw lo) (raw hi) (raw (get_or s i (pos 0))) → r ≡ false →
       i ≡ first_outside lo hi s
-  stops {r} h f e n = omega (arith, plain, one h f e (not-true r n))
+  stops {r} h f e n = omega (arith, plain, one h f e n)
 
-  pub goes_on : {r : Bool} → i < length s → mag (get_or s i (pos 0)) < 2 ^ 31 → r ≡ within (raw lo) (raw hi) (raw (get_or s i (pos 0))) → not r ≡ false →
+  pub goes_on : {r : Bool} → i < length s → mag (get_or s i (pos 0)) < 2 ^ 31 → r ≡ within (raw lo) (raw hi) (raw (get_or s i (pos 0))) → r ≡ true →
       first_outside (raw lo) (raw hi) s ≡ (i + 1) + first_outside (raw lo) (raw hi) (drop (i + 1) s)
-  goes_on {r} h f e n = omega (arith, one h f e (not-false r n))
+  goes_on {r} h f e n = omega (arith, one h f e n)
 
   pub ends : length s ≤ i → i ≡ first_outside lo hi s
   ends h = omega (arith, plain, so_far, first.first_past (within (raw lo) (raw hi)) (pos 0) s i h)

@@ -1,4 +1,6 @@
 // The arguments of `eqwave`: text to gains. No public call has a `requires`.
+#![tactic(auto)]
+
 mod digits;
 mod given;
 mod half;

@@ -1,5 +1,7 @@
 // What the program `eqwave` decides: the order of its checks, the plan of a run, bytes to samples.
 // No public call has a `requires`.
+#![tactic(auto)]
+
 mod data;
 mod front;
 mod refusal;

@@ -1,4 +1,6 @@
 // The program `eqwave`: it reads, calls and writes. What it decides, `eqfile` decides.
+#![tactic(auto)]
+
 ghost use Rattle.eqwave.specs.Started.{Before};
 
 use arguments::Arguments;

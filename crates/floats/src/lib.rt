@@ -1,4 +1,6 @@
 // Floats as samples and samples as floats, one at a time and by the block. No public call has a `requires`.
+#![tactic(auto)]
+
 mod block;
 mod code;
 mod single;

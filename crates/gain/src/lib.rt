@@ -1,4 +1,6 @@
 // Gain commands: decibels, a factor, or off, each answered by a gain or a refusal.
+#![tactic(auto)]
+
 ghost use Rattle.std.specs.Prelude.{◌≡◌};
 ghost use Rattle.gain.specs.Promise.{command_gain};
 

@@ -1,4 +1,6 @@
 // What the gain command answers to the floats below, to the floats next to them, and to the negatives of all of these.
+#![tactic(auto)]
+
 ghost use Rattle.std.specs.Prelude.{◌≡◌, unsigned_abs};
 ghost use Rattle.printing.specs.Told.{numbered, by_number};
 

@@ -1,4 +1,6 @@
 // The calls: line memory, prepare, block.
+#![tactic(auto)]
+
 pub mod block;
 mod layout;
 pub mod memory;

@@ -1,5 +1,7 @@
 // What the programs that run readings share: text, numbers and answers on standard output; lists of places.
 // No contract can say what is written. A function that hands something over says what it is.
+#![tactic(auto)]
+
 pub mod places;
 
 ghost use Rattle.std.specs.Prelude.{◌≡◌, nat_abs};

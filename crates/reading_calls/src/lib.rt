@@ -1,3 +1,5 @@
 // The calls of the programs of readings, each told as it is made.
+#![tactic(auto)]
+
 mod answer;
 pub mod call;

@@ -1,6 +1,8 @@
 // Runs the cases that standard input has, of one channel and of two: the memory length, prepare and block at every edge, and courses of
 // blocks at 2, 3, 8 and 10 bands. A case is a few numbers: what is asked, then its own. tests/readings.py writes the cases, and works
 // out from the rules what this program is to write.
+#![tactic(auto)]
+
 use cases::fill::fill;
 use cases::words::word;
 use reading_calls::call;

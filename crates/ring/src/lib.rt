@@ -1,3 +1,5 @@
 // One line of the memory: a ring, its taps, the low-pass and the aligned sample.
+#![tactic(auto)]
+
 pub mod line;
 mod low;

@@ -1,5 +1,7 @@
 // Samples and their bytes, one sample at a time and by the block.
 // No public call has a `requires`: what it cannot take it refuses, and then it changes nothing that is lent.
+#![tactic(auto)]
+
 mod block;
 mod channels;
 mod code;

@@ -1,4 +1,6 @@
 // The right values of a `fmt ` chunk, in one place. No call has a `requires`.
+#![tactic(auto)]
+
 ghost use Rattle.std.specs.Prelude.{◌≡◌, ◌<◌};
 ghost use Rattle.samples.specs.Channels.{count_of};
 ghost use Rattle.wave_values.specs.Values.{known_length, frame_size, whole_coding, float_coding, coding_of, channels_of, known_rate, right};

@@ -1,5 +1,7 @@
 // The writer of WAVE headers, and what it writes read back.
 // The public call has no `requires`: what it cannot take it refuses, and then the buffer is as before.
+#![tactic(auto)]
+
 mod writer;
 
 pub use writer::{Written, write};

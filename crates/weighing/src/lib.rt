@@ -1,3 +1,5 @@
 // From the aligned rows of the lines to outputs: gains enter here alone.
+#![tactic(auto)]
+
 pub mod differences;
 pub mod rows;
