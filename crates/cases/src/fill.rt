@@ -40,16 +40,16 @@ fn each(s: &mut [i32], from: usize, drawn: bool, before: u64, rule: Rule) {
 }
 
 // Fills the places from one on up to another, by the rule that the next numbers give.
-pub fn fill(input: &mut impl Read, s: &mut [i32]) {
-    let from = word(input) as usize;
-    let end = front(word(input) as usize, s);
-    let drawn = word(input) == 1;
-    let before = word(input) as u64;
+pub fn fill(cases: &mut impl Read, s: &mut [i32]) {
+    let from = word(cases) as usize;
+    let end = front(word(cases) as usize, s);
+    let drawn = word(cases) == 1;
+    let before = word(cases) as u64;
     let rule = Rule {
-        divisor: word(input),
-        span: word(input),
-        base: word(input),
-        step: word(input),
+        divisor: word(cases),
+        span: word(cases),
+        base: word(cases),
+        step: word(cases),
     };
     each(&mut s[..end], from, drawn, before, rule);
 }

@@ -5,10 +5,10 @@ use std::io::Read;
 use whole::counts::wide;
 
 // The next number; past the end it is 0.
-pub fn word(input: &mut impl Read) -> u32 {
+pub fn word(cases: &mut impl Read) -> u32 {
     let mut b = [0u8; 4];
-    // What the input lacks stays 0.
-    let _ = input.read_exact(&mut b);
+    // What the cases lack stays 0.
+    let _ = cases.read_exact(&mut b);
     wide(b[0]) + 256 * wide(b[1]) + 65536 * wide(b[2]) + 16777216 * wide(b[3])
 }
 
