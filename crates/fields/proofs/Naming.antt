@@ -1,6 +1,6 @@
 -- Names: `same` is equality, its test at a place is four tests, and four stores put a name. Assumes nothing.
 use mathlib.Core.Path.{◌≡◌, refl, sym, ap, ◌∙◌}
-use mathlib.Core.Bool.{Bool, true, false, ◌&&◌, and-true, true≢false}
+use mathlib.Core.Bool.{Bool, true, ◌&&◌, and-true, true≢false}
 use mathlib.Core.List.{List, [], ◌∷◌}
 use Prim.Native.Nat.{ℕ, ◌+◌, ◌≤◌}
 use native.Mathlib.Nat.{add-zero}

@@ -1,7 +1,7 @@
 -- Numbers in either order: a row and its number, a row in two parts, a row that was put. Assumes nothing.
 use mathlib.Core.Path.{◌≡◌, refl, sym, ap, ◌∙◌, subst}
 use mathlib.Core.List.{List, [], ◌∷◌, ◌++◌, append-nil, append_assoc, reverse, reverse_aux, reverse-append, reverse-reverse}
-use Prim.Native.Nat.{ℕ, suc, ◌+◌, ◌-◌, ◌*◌, ◌/◌, ◌%◌, ◌^◌, ◌<◌, ◌≤◌}
+use Prim.Native.Nat.{ℕ, suc, ◌+◌, ◌*◌, ◌/◌, ◌%◌, ◌^◌, ◌<◌, ◌≤◌}
 use native.Mathlib.Nat.{add-zero, add-suc, suc-add, add_comm, mul_comm, mod-lt, div-lt_iff_lt-mul, pow-le-pow_right}
 use lib.Pow.{pow-add}
 use native.Mathlib.Omega.{arith}

@@ -1,11 +1,10 @@
 -- The first of some samples that is none: of whole numbers there is no such one, of floats a loop finds it. Assumes nothing.
 use mathlib.Core.Path.{◌≡◌, refl, sym, ap, ◌∙◌}
-use mathlib.Core.Bool.{Bool, true, false, not, cond}
+use mathlib.Core.Bool.{Bool, true, false, cond}
 use mathlib.Core.List.{List, []}
 use Prim.Native.Nat.{ℕ, zero, suc, ◌+◌, ◌*◌, ◌≤◌, ◌<◌}
 use native.Mathlib.Nat.{le_of_suc-le-suc, not-suc-le-zero, mul-zero}
 use native.Mathlib.Omega.{arith}
-use borrow.Author.Tests.{not-true, not-false}
 use lib.ListN.{length, get_or, take, drop}
 use lib.Seq.{drop-drop}
 use lib.Ieee.{binary32, of_bits}
@@ -75,11 +74,11 @@ module _ (n : ℕ) (s : List ℕ) (i : ℕ) (h : Searched n s i) where
       ap (λ (b : Bool). cond b (suc (first_failing (is_sample_in Float32) (drop (i + 1) (pieces_of n 4 s)))) 0) (sym e ∙ v))
 
   module _ (at code : ℕ) (r : Bool) (float : FloatSample) (l : i < n) (a : at ≡ 4 * i) (c : code ≡ field lowest s at 4) (f : float ≡ float_sample (of_bits binary32 code)) (e : r ≡ is_sample float) where
-    pub stops : not r ≡ true → i ≡ first_bad n Float32 s
-    stops v = omega (arith, one r _ l (judged at code r float l a c f e) (not-true r v))
+    pub stops : r ≡ false → i ≡ first_bad n Float32 s
+    stops v = omega (arith, one r _ l (judged at code r float l a c f e) v)
 
-    pub goes_on : not r ≡ false → Searched n s (i + 1)
-    goes_on v = record { below = omega arith; so_far = omega (arith, one r _ l (judged at code r float l a c f e) (not-false r v)) }
+    pub goes_on : r ≡ true → Searched n s (i + 1)
+    goes_on v = record { below = omega arith; so_far = omega (arith, one r _ l (judged at code r float l a c f e) v) }
 
   pub ends : n ≤ i → i ≡ first_bad n Float32 s
   ends l = omega (arith, h.so_far, first_past (is_sample_in Float32) [] (pieces_of n 4 s) i (omega (arith, length_pieces n 4 s)))

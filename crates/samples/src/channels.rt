@@ -2,7 +2,7 @@
 ghost use Rattle.std.specs.Prelude.{◌≡◌, ◌<◌};
 ghost use Rattle.samples.specs.Channels.{count_of};
 
-#[derive(Drop)]
+#[derive(Clone, Copy)]
 pub enum Channels {
     One,
     Two,

@@ -2,7 +2,7 @@
 ghost use Rattle.std.specs.Prelude.{◌≡◌, ◌<◌};
 ghost use Rattle.samples.specs.Format.{bits_of, size_of};
 
-#[derive(Drop)]
+#[derive(Clone, Copy)]
 pub enum Format {
     Bits16,
     Bits24,
