@@ -1,14 +1,11 @@
 -- An argument's gain is the gain command's answer. Assumes nothing.
 use mathlib.Core.Path.{◌≡◌, sym, ap, ◌∙◌, subst}
-use mathlib.Core.List.{List, [], ◌∷◌}
-use mathlib.Core.Logic.{⊎_elim}
+use mathlib.Core.List.{List}
 use Prim.Native.Nat.{ℕ, ◌≤◌, ◌<◌}
 use native.Mathlib.Omega.{arith}
 use lib.IntN.{ℤ, pos, ◌-ℤ◌}
 use lib.Ieee.{Float}
 use lib.Signed.{mag}
-use types.Run.{OneOf}
-use denote.Enum.Declared.{tag_of}
 use Rattle.answers.specs.Unit.{largest_gain}
 use Rattle.gain.specs.Decibels.{Half}
 use Rattle.gain.specs.Promise.{command_gain}
@@ -16,7 +13,6 @@ use Rattle.gain.specs.Table.{entry}
 use Rattle.gain.specs.declared.Command.TheVariants.{Decibels}
 use Rattle.gain.specs.declared.Gained.{Gained}
 use Rattle.gain.specs.declared.Gained.TheVariants as gained
-use Rattle.gain.specs.contracts.Gained as declared
 use Rattle.gain.proofs.Every.{place_range}
 use Rattle.gain.proofs.Halves.{accepted_half}
 use Rattle.gain.proofs.Table.{entry_small}
@@ -48,10 +44,8 @@ module _ (s : List ℕ) where
           ap Gain r ∙ ap gain_for e
 
       -- the code's other way out is never taken
-      pub command_refuses : (r : Gained) → OneOf (1 ∷ 2 ∷ []) (tag_of declared.the_type r) → r ≡ command_gain (Decibels x) → Refused ≡ argument_of s
-      command_refuses r t p =
-          let u : OneOf (1 ∷ 2 ∷ []) 0 = subst (λ (q : Gained). OneOf (1 ∷ 2 ∷ []) (tag_of declared.the_type q)) (p ∙ answered) t in
-          absurd (⊎_elim (λ (z : ◌≡◌ {A = ℕ} 0 1). omega arith) (λ (z : ◌≡◌ {A = ℕ} 0 2). omega arith) u)
+      pub command_refuses : (r : Gained) → ((g : ℤ) → r ≡ gained.Gain g → ⊥) → r ≡ command_gain (Decibels x) → Refused ≡ argument_of s
+      command_refuses r never p = absurd (never (pos (entry (pos i -ℤ pos 24))) (p ∙ answered))
 
 -- an argument's gain is from 0 to 16,384
 pub gain_small : (s : List ℕ) (g : ℤ) → Gain g ≡ argument_of s → (n : ℕ) × ((g ≡ pos n) × (n ≤ largest_gain))

@@ -9,7 +9,7 @@ use answers::unit::FRONT_LENGTH;
 pub const BANDS: usize = 8;
 
 // The arguments so far.
-#[derive(Drop)]
+#[derive(Clone, Copy)]
 pub enum Arguments {
     // So many were taken.
     Taken(usize),

@@ -3,9 +3,10 @@ ghost use Rattle.std.specs.Prelude.{◌+◌, ◌*◌, ◌/◌, ◌%◌, ◌≡�
 
 use crate::words::{place, word};
 use printing::places::front;
+use std::io::Read;
 
 // What is made of a number: divided, cut to a span, so many steps from the base. Divisor and span are kept less one.
-#[derive(Drop)]
+#[derive(Clone, Copy)]
 struct Rule {
     divisor: u32,
     span: u32,
@@ -39,16 +40,16 @@ fn each(s: &mut [i32], from: usize, drawn: bool, before: u64, rule: Rule) {
 }
 
 // Fills the places from one on up to another, by the rule that the next numbers give.
-pub fn fill(s: &mut [i32]) {
-    let from = word() as usize;
-    let end = front(word() as usize, s);
-    let drawn = word() == 1;
-    let before = word() as u64;
+pub fn fill(cases: &mut impl Read, s: &mut [i32]) {
+    let from = word(cases) as usize;
+    let end = front(word(cases) as usize, s);
+    let drawn = word(cases) == 1;
+    let before = word(cases) as u64;
     let rule = Rule {
-        divisor: word(),
-        span: word(),
-        base: word(),
-        step: word(),
+        divisor: word(cases),
+        span: word(cases),
+        base: word(cases),
+        step: word(cases),
     };
     each(&mut s[..end], from, drawn, before, rule);
 }

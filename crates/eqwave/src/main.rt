@@ -3,28 +3,37 @@
 
 ghost use Rattle.eqwave.specs.Started.{Before};
 
+use answers::unit::FRONT_LENGTH;
 use arguments::Arguments;
 use eqfile::Start;
+use std::io::Read;
 use turning::place::Job;
 
 mod run;
 mod say;
 
-fn main() {
+fn main(rt: HostRuntime) {
     let mut gains = [0i32; arguments::BANDS];
-    let mut front = io::buffer();
-    let arguments = arguments::take(&mut gains);
+    let mut front = [0u8; FRONT_LENGTH];
+    let arguments = arguments::take(&rt, &mut gains);
     let wanted = arguments::front_wanted(arguments);
-    let got = turning::input::fill(&mut front[..wanted]);
-    begin(arguments, &front[..got], &gains);
+    let mut stdin = rt.stdin();
+    let got = turning::input::fill(&mut stdin, &mut front[..wanted]);
+    begin(&rt, &mut stdin, arguments, &front[..got], &gains);
 }
 
 // A run, or the number that it is refused with.
-fn begin(arguments: Arguments, front: &[u8], gains: &[i32])
+fn begin(
+    rt: &(impl Print + Eprint),
+    stdin: &mut impl Read,
+    arguments: Arguments,
+    front: &[u8],
+    gains: &[i32],
+)
     requires { Before arguments front.now gains.now }
 {
     match eqfile::begin(arguments, front) {
-        Start::Refused(refusal) => say::refused(refusal),
+        Start::Refused(refusal) => say::refused(rt, refusal),
         Start::Run {
             rate,
             format,
@@ -38,7 +47,7 @@ fn begin(arguments: Arguments, front: &[u8], gains: &[i32])
                 frames,
                 start,
             };
-            run::run(rate, job, gains, front)
+            run::run(rt, stdin, rate, job, gains, front)
         }
     }
 }

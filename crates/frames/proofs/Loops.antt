@@ -9,10 +9,6 @@ use native.Mathlib.Omega.{arith}
 use lib.ListN.{length, get_or, take, drop, set, length-set}
 use lib.Seq.{slice, slice-cons, slice_empty, take_all, take-suc-set, append_snoc, ext_get_or, get_or-set_same, get_or-set_other}
 use lib.IntN.{ℤ, pos}
-use mir.Syntax.{w32}
-use mir.Val.{SFits}
-use mir.Facts.{to_z-of_z}
-use Rattle.whole.proofs.Rounded.{raw}
 use Rattle.frames.specs.Frames.{side}
 use Rattle.frames.proofs.Laws.{side-length, side_at, side-from, other_side, other_frame, place_inside}
 
@@ -28,13 +24,13 @@ pub copying_starts : (x row : List ℤ) → Copying x row row 0
 copying_starts x row = record { reached = omega arith; same_row = refl; rest = take_all (length x) x (omega arith) }
 
 module _ (x row₀ row : List ℤ) (i : ℕ) (p : Copying x row₀ row i) where
-  pub copying_on : i < length x → length x ≤ length row₀ → SFits w32 (get_or x i (pos 0)) → Copying x row₀ (set row i (raw w32 (get_or x i (pos 0)))) (i + 1)
-  copying_on h hr fx =
+  pub copying_on : i < length x → length x ≤ length row₀ → Copying x row₀ (set row i (get_or x i (pos 0))) (i + 1)
+  copying_on h hr =
       let v = get_or x i (pos 0) in
       record {
         reached = omega arith;
-        same_row = length-set row i (raw w32 v) ∙ p.same_row;
-        rest = rw (add-one i, to_z-of_z fx, take-suc-set row i v (omega (arith, p.same_row)), append_snoc) (rw (slice-cons i (length x) x (pos 0) h (omega arith)) at p.rest);
+        same_row = length-set row i v ∙ p.same_row;
+        rest = rw (add-one i, take-suc-set row i v (omega (arith, p.same_row)), append_snoc) (rw (slice-cons i (length x) x (pos 0) h (omega arith)) at p.rest);
       }
 
   pub copying_ends : length x ≤ i → take (length x) row ≡ x
@@ -55,14 +51,13 @@ module _ (c s n : ℕ) (block row₀ : List ℤ) where
   gathering_starts = record { reached = omega arith; same_row = refl; rest = rw (mul-zero c, sub-zero n) refl }
 
   module _ (row : List ℤ) (i : ℕ) (g : Gathering c s n block row₀ row i) where
-    pub gathering_on : i < n → n ≤ length row₀ → SFits w32 (get_or block (c * i + s) (pos 0)) →
-        Gathering c s n block row₀ (set row i (raw w32 (get_or block (c * i + s) (pos 0)))) (i + 1)
-    gathering_on h room fits =
+    pub gathering_on : i < n → n ≤ length row₀ → Gathering c s n block row₀ (set row i (get_or block (c * i + s) (pos 0))) (i + 1)
+    gathering_on h room =
         let v = get_or block (c * i + s) (pos 0) in
         record {
           reached = omega arith;
-          same_row = length-set row i (raw w32 v) ∙ g.same_row;
-          rest = rw (add-one i, to_z-of_z fits, take-suc-set row i v (omega (arith, g.same_row)), append_snoc) (rw (side-from c s n i block h) at g.rest);
+          same_row = length-set row i v ∙ g.same_row;
+          rest = rw (add-one i, take-suc-set row i v (omega (arith, g.same_row)), append_snoc) (rw (side-from c s n i block h) at g.rest);
         }
 
     pub gathering_ends : n ≤ i → take n row ≡ side c s n block

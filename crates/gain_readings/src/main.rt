@@ -8,6 +8,7 @@ use encoding::code::SignedParts;
 use gain::{Command, Gained};
 use parts::gains::gain_parts;
 use printing::{Answer, line, text, told};
+use std::io;
 
 // 0, 0.5, 1, 1.5, .. 12, as bit patterns: the half decibels.
 const HALVES: [u32; 25] = [
@@ -51,9 +52,9 @@ fn answered(a: SignedParts) -> Answer
     Answer::Refused(a.0 as u64)
 }
 
-fn write(answer: Gained) {
-    told(answered(gain_parts(answer)));
-    line();
+fn write(rt: &impl Print, answer: Gained) -> io::Result<()> {
+    told(rt, answered(gain_parts(answer)))?;
+    line(rt)
 }
 
 fn command(decibels: bool, x: f32) -> Command {
@@ -64,35 +65,36 @@ fn command(decibels: bool, x: f32) -> Command {
     }
 }
 
-fn one(decibels: bool, bits: u32) {
+fn one(rt: &impl Print, decibels: bool, bits: u32) -> io::Result<()> {
     if decibels {
-        text(b"decibels");
+        text(rt, b"decibels")?;
     } else {
-        text(b"factor");
+        text(rt, b"factor")?;
     }
-    printing::pattern(bits);
-    write(gain::gain(command(decibels, float(bits))));
+    printing::pattern(rt, bits)?;
+    write(rt, gain::gain(command(decibels, float(bits))))
 }
 
-fn beside(decibels: bool, bits: u32) {
-    one(decibels, std::num::wrapping_sub_u32(bits, 1));
-    one(decibels, bits);
-    one(decibels, std::num::wrapping_add_u32(bits, 1));
+fn beside(rt: &impl Print, decibels: bool, bits: u32) -> io::Result<()> {
+    one(rt, decibels, bits.wrapping_sub(1))?;
+    one(rt, decibels, bits)?;
+    one(rt, decibels, bits.wrapping_add(1))
 }
 
-fn each(decibels: bool, patterns: &[u32]) {
+fn each(rt: &impl Print, decibels: bool, patterns: &[u32]) -> io::Result<()> {
     for i in 0..patterns.len() {
         let bits = patterns[i];
-        beside(decibels, bits);
-        beside(decibels, std::num::wrapping_add_u32(bits, 0x80000000));
+        beside(rt, decibels, bits)?;
+        beside(rt, decibels, bits.wrapping_add(0x80000000))?;
     }
+    Ok(())
 }
 
-fn main() {
-    each(true, &HALVES);
-    each(true, &NO_HALVES);
-    each(false, &TIES);
-    each(false, &ENDS);
-    text(b"off");
-    write(gain::gain(Command::Off));
+fn main(rt: HostRuntime) -> io::Result<()> {
+    each(&rt, true, &HALVES)?;
+    each(&rt, true, &NO_HALVES)?;
+    each(&rt, false, &TIES)?;
+    each(&rt, false, &ENDS)?;
+    text(&rt, b"off")?;
+    write(&rt, gain::gain(Command::Off))
 }

@@ -1,8 +1,8 @@
 -- Samples one after the other through all lines, or a row through one line after the other: the same, for any places. Over any prototype
 -- that the rings hold. Assumes nothing.
-use mathlib.Core.Path.{◌≡◌, refl, sym, ap, ◌∙◌}
+use mathlib.Core.Path.{◌≡◌, refl, sym, ap, ap₂, ◌∙◌}
 use mathlib.Core.List.{List, [], ◌∷◌, ◌++◌, map}
-use Prim.Native.Nat.{ℕ, zero, suc, ◌+◌, ◌-◌, ◌*◌, ◌^◌, ◌≤◌, ◌<◌}
+use Prim.Native.Nat.{ℕ, zero, suc, ◌+◌, ◌*◌, ◌^◌, ◌≤◌, ◌<◌}
 use native.Mathlib.Nat.{pow-succ', mul-le-mul_left}
 use native.Mathlib.Omega.{arith}
 use lib.Pow.{pow_mono}
@@ -20,6 +20,9 @@ use Rattle.ring.proofs.Places.{low_same, late-same}
 pub record Passed : Type 0 where
   pub places : List ℤ
   pub aligned : List (List ℤ)
+
+abbrev the_passed : List ℤ → List (List ℤ) → Passed
+the_passed places aligned = record { places = places; aligned = aligned }
 
 -- a line's run, with what stands behind the line
 abbrev behind : List ℤ → Lined → Lined
@@ -74,6 +77,10 @@ module _ (p : Prototype) (size : ℕ) where
   passed_none L at lines [] = refl
   passed_none L at lines (x ∷ xs) = rw (passed_none L (suc at) lines xs)
 
+  row_alone : (L at : ℕ) (lines xs : List ℤ) → record { places = lines; aligned = map (λ (x : ℤ). x ∷ []) xs } ≡ read (rowed p size 0 L at lines xs)
+  unfolding rowed columns
+  row_alone L at lines xs = refl
+
   columns-below : (k L at : ℕ) (row lines xs : List ℤ) → columns (row ∷ (rowed p size k L at lines xs).rows) ≡ before row (columns (rowed p size k L at lines xs).rows)
   unfolding rowed columns
   columns-below zero L at row lines xs = refl
@@ -109,11 +116,17 @@ module _ (p : Prototype) (size : ℕ) where
         let below = step p size k (2 * L) at t (low_value p s size at L x) in
         rw (step_split k L at s t x o r e (omega arith), interchange k L (suc at) (set s at x) below.places xs o r (length-set s at x ∙ e) (omega arith))
 
+    -- a line's run over a row, with the lines below
+    abbrev over : (k L at : ℕ) → List ℤ → Lined → Rowed
+    over k L at t q =
+        let below = rowed p size k (2 * L) at t q.low in
+        record { places = take size q.places ++ below.places; rows = q.late ∷ below.rows }
+
     -- the whole: what the code does by rows is what samples in turn give
     pub rows_are : (k L at : ℕ) (lines xs : List ℤ) → 1 ≤ L → p.centre * (L * 2 ^ k) ≤ size → length lines ≡ k * size → at + length xs ≤ size →
         passed k L at lines xs ≡ read (rowed p size k L at lines xs)
-    unfolding rowed columns
-    rows_are zero L at lines xs o r e h = passed_none L at lines xs
+    unfolding rowed
+    rows_are zero L at lines xs o r e h = passed_none L at lines xs ∙ row_alone L at lines xs
     rows_are (suc k) L at lines xs o r e h =
         let s = take size lines in
         let t = drop size lines in
@@ -125,5 +138,10 @@ module _ (p : Prototype) (size : ℕ) where
         let twice : 2 * (p.centre * L) ≤ size = omega (arith, r', mul-le-mul_left p.centre once) in
         let whole : lines ≡ s ++ t = sym (take-append-drop size lines) in
         let first : line p size L at lines xs ≡ behind t l = ap (λ (q : List ℤ). line p size L at q xs) whole ∙ line_behind L at s t xs o twice es h in
+        let below = rowed p size k (2 * L) at t l.low in
+        let cut : take size (l.places ++ t) ≡ l.places = take_at l.places t size (line_length_lem L at s xs ∙ es) in
         ap (λ (q : List ℤ). passed (suc k) L at q xs) whole ∙ interchange k L at s t xs o twice es h ∙
-        rw (rows_are k (2 * L) at t l.low (omega arith) r' (simp length-drop (omega arith)) (rw (low_length L at s xs) h), first, take_at l.places t size (line_length_lem L at s xs ∙ es), columns-below k (2 * L) at l.late t l.low)
+        ap (join l) (rows_are k (2 * L) at t l.low (omega arith) r' (simp length-drop (omega arith)) (rw (low_length L at s xs) h)) ∙
+        sym
+        (ap (λ (q : Lined). read (over k L at t q)) first ∙
+        ap₂ (λ (u : List ℤ) (v : List (List ℤ)). the_passed (u ++ below.places) v) cut (columns-below k (2 * L) at l.late t l.low))

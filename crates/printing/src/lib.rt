@@ -6,6 +6,8 @@ pub mod places;
 
 ghost use Rattle.std.specs.Prelude.{◌≡◌, nat_abs};
 
+use std::io;
+
 // What a call answered: a number, or the number of its refusal.
 #[derive(Drop)]
 pub enum Answer {
@@ -13,23 +15,23 @@ pub enum Answer {
     Refused(u64),
 }
 
-pub fn text(s: &[u8]) {
-    io::write_all(1, s);
+// The bytes as they are.
+pub fn text(rt: &impl Print, s: &[u8]) -> io::Result<()> {
+    rt.write_all(s)
 }
 
-pub fn line() {
-    text(b"\n");
+pub fn line(rt: &impl Print) -> io::Result<()> {
+    text(rt, b"\n")
 }
 
 // A space and a number.
-pub fn field(n: u64) {
-    text(b" ");
-    io::print_decimal(1, n);
+pub fn field(rt: &impl Print, n: u64) -> io::Result<()> {
+    print!(rt; " {n}")
 }
 
 // A space and how many.
-pub fn count(n: usize) {
-    field(n as u64);
+pub fn count(rt: &impl Print, n: usize) -> io::Result<()> {
+    field(rt, n as u64)
 }
 
 // A number without its sign.
@@ -40,30 +42,25 @@ pub fn magnitude(z: i32) -> u64
 }
 
 // A space and a number with its sign.
-pub fn signed_field(z: i32) {
-    text(b" ");
-    if z < 0 {
-        text(b"-");
-    }
-    io::print_decimal(1, magnitude(z));
+pub fn signed_field(rt: &impl Print, z: i32) -> io::Result<()> {
+    print!(rt; " {z}")
 }
 
 // A space and the eight digits of a float's bits.
-pub fn pattern(bits: u32) {
-    text(b" ");
-    io::print_hex(1, bits as u64, 8);
+pub fn pattern(rt: &impl Print, bits: u32) -> io::Result<()> {
+    print!(rt; " {bits:08x}")
 }
 
 // `accepted` or `refused`, and the number.
-pub fn told(answer: Answer) {
+pub fn told(rt: &impl Print, answer: Answer) -> io::Result<()> {
     match answer {
         Answer::Accepted(n) => {
-            text(b" accepted");
-            field(n);
+            text(rt, b" accepted")?;
+            field(rt, n)
         }
         Answer::Refused(n) => {
-            text(b" refused");
-            field(n);
+            text(rt, b" refused")?;
+            field(rt, n)
         }
     }
 }

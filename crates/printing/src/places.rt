@@ -4,6 +4,7 @@ ghost use Rattle.printing.specs.Part.{Front};
 ghost use Rattle.printing.specs.Total.{code as Total·code, add as Total·add, total_from};
 
 use crate::{count, field, magnitude, signed_field, text};
+use std::io;
 use whole::counts::least;
 
 // How many of the first n places there are.
@@ -62,25 +63,26 @@ fn total(s: &[i32]) -> u64
     sum
 }
 
-fn fields(s: &[i32]) {
+fn fields(rt: &impl Print, s: &[i32]) -> io::Result<()> {
     for i in 0..s.len() {
-        signed_field(s[i]);
+        signed_field(rt, s[i])?;
     }
+    Ok(())
 }
 
 // How many places, and each of them, or their total if they are many.
-pub fn list(s: &[i32]) {
-    count(s.len());
+pub fn list(rt: &impl Print, s: &[i32]) -> io::Result<()> {
+    count(rt, s.len())?;
     if s.len() <= 40 {
-        fields(s);
+        fields(rt, s)
     } else {
-        text(b" total");
-        field(total(s));
+        text(rt, b" total")?;
+        field(rt, total(s))
     }
 }
 
 // How many places are not as they were before, and the list.
-pub fn compared(s: &[i32], before: &[i32]) {
-    count(changed(s, before));
-    list(s);
+pub fn compared(rt: &impl Print, s: &[i32], before: &[i32]) -> io::Result<()> {
+    count(rt, changed(s, before))?;
+    list(rt, s)
 }

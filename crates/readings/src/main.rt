@@ -6,36 +6,49 @@
 use cases::fill::fill;
 use cases::words::word;
 use reading_calls::call;
+use std::io;
+use std::io::Read;
 
 // One case, on lists that are as the cases before it left them.
 fn one(
+    rt: &impl Print,
+    cases: &mut impl Read,
     memory: &mut [i32; 92163],
     gains: &mut [i32; 10],
     input: &mut [i32; 8194],
     output: &mut [i32; 8194],
-) {
+) -> io::Result<()> {
     let kept = *memory;
     let marked = *output;
-    match word() {
-        0 => call::length(),
-        1 => call::prepared(memory, &kept),
-        2 => call::blocked(memory, gains, input, output, &kept, &marked),
-        3 => fill(memory),
-        4 => fill(gains),
-        5 => fill(input),
-        _ => fill(output),
+    match word(cases) {
+        0 => call::length(rt, cases)?,
+        1 => call::prepared(rt, cases, memory, &kept)?,
+        2 => call::blocked(rt, cases, memory, gains, input, output, &kept, &marked)?,
+        3 => fill(cases, memory),
+        4 => fill(cases, gains),
+        5 => fill(cases, input),
+        _ => fill(cases, output),
     }
+    Ok(())
 }
 
 // The memory has as many places as the layout would give to eleven bands of one channel; input and output have one frame more than a block
 // of two channels may have.
-fn main() {
+fn main(rt: HostRuntime) -> io::Result<()> {
     let mut memory = [0i32; 92163];
     let mut gains = [0i32; 10];
     let mut input = [0i32; 8194];
     let mut output = [0i32; 8194];
-    let cases = word();
-    for i in 0..cases {
-        one(&mut memory, &mut gains, &mut input, &mut output);
+    let mut cases = rt.stdin();
+    for _ in 0..word(&mut cases) {
+        one(
+            &rt,
+            &mut cases,
+            &mut memory,
+            &mut gains,
+            &mut input,
+            &mut output,
+        )?;
     }
+    Ok(())
 }

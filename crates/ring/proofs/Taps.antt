@@ -104,7 +104,7 @@ low_value_is line size at L x s n r h b e l =
     let n-is : n ≡ nearest 100000 s = e ∙ ap (nearest 100000) s-is in
     let n-fits : SFits w64 n = rw n-is (nearest_fits 100000 (lit< tt) (lit≤ tt) s (omega arith)) in
     let r-is : r ≡ limit least_place most_place n = l ∙ ap (limit least_place most_place) (to_z-of_z n-fits) in
-    to_z-of_z (rw r-is (limit32_fits n)) ∙ r-is ∙ ap (limit least_place most_place) (n-is ∙ ap (nearest 100000) h)
+    to_z-of_z {w = w32} {z = r} (rw r-is (limit32_fits n)) ∙ r-is ∙ ap (limit least_place most_place) (n-is ∙ ap (nearest 100000) h)
 
 -- ---- the aligned sample: `size - 9·L` back is 9·L ahead, in the ring
 

@@ -68,13 +68,13 @@ PutDone job gains front place memory piece Taken after' =
     (turn_numbers job.format job.channels job.frames (state_at place memory) piece ≡ true) ×
     (after' ≡ (block_done gains job.format job.channels job.frames (state_at place memory) piece).lent.0)
 PutDone job gains front place memory piece BadSample after' = Stopped job gains front
-PutDone job gains front place memory piece NotTaken after' = turn_numbers job.format job.channels job.frames (state_at place memory) piece ≡ true
+PutDone job gains front place memory piece (NotTaken error) after' = turn_numbers job.format job.channels job.frames (state_at place memory) piece ≡ true
 
 -- rule 10.10: a turn leaves a run that has fed more
 abbrev pub Further : Job → List ℤ → List ℕ → Place → Turned → List ℤ → Type 0
 Further job gains front place (On further) memory = Running job gains front further memory × (place.at < fed_in_all job.frames → place.at < further.at)
 Further job gains front place NotANumber memory = Stopped job gains front
-Further job gains front place OutputFailed memory = Tried job gains front
+Further job gains front place (OutputFailed error) memory = Tried job gains front
 
 -- rule 10.13: a run has ended by its plan, and so many bytes were read
 pub record Ended (job : Job) (gains : List ℤ) (front : List ℕ) (read : ℕ) : Type 0 where

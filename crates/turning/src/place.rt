@@ -2,7 +2,7 @@
 use samples::{Channels, Format};
 
 // The format and the channels of the file's frames, how many there are, and where in the front their bytes start.
-#[derive(Drop)]
+#[derive(Clone, Copy)]
 pub struct Job {
     pub format: Format,
     pub channels: Channels,
@@ -11,7 +11,7 @@ pub struct Job {
 }
 
 // The frames fed and the data bytes read so far.
-#[derive(Drop)]
+#[derive(Clone, Copy)]
 pub struct Place {
     pub at: usize,
     pub read: usize,

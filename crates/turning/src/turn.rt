@@ -8,6 +8,8 @@ use crate::{buffers, input, output};
 use blocks::Equalised;
 use eqfile::Turn;
 use samples::channel_count;
+use std::io;
+use std::io::Read;
 
 // What a turn comes to.
 #[derive(Drop)]
@@ -17,7 +19,7 @@ pub enum Turned {
     // A sample of its block is no number: nothing of the block was handed over.
     NotANumber,
     // Standard output took no more.
-    OutputFailed,
+    OutputFailed(io::Error),
 }
 
 // What the block of a turn comes to.
@@ -28,7 +30,7 @@ pub enum Handed {
     // A sample is no number.
     BadSample,
     // Standard output took no more.
-    NotTaken,
+    NotTaken(io::Error),
 }
 
 // The bytes that the block of a turn stored. No block of a run is refused.
@@ -44,6 +46,7 @@ fn count(equalised: Equalised) -> usize
 
 // Equalises the block of a turn for which some bytes came, and hands over what it stores, if each sample is a number.
 fn put(
+    rt: &impl Print,
     job: Job,
     gains: &[i32],
     front: &[u8],
@@ -73,14 +76,22 @@ fn put(
         skipped,
         &mut stored[..written],
     ));
-    if output::hand(&stored[..n], job, gains, front) {
-        return Handed::Taken;
+    match output::hand(rt, &stored[..n], job, gains, front) {
+        Ok(()) => Handed::Taken,
+        Err(error) => Handed::NotTaken(error),
     }
-    Handed::NotTaken
 }
 
 // The next turn of a run.
-pub fn one_turn(job: Job, gains: &[i32], front: &[u8], place: Place, memory: &mut [i32]) -> Turned
+pub fn one_turn(
+    rt: &impl Print,
+    stdin: &mut impl Read,
+    job: Job,
+    gains: &[i32],
+    front: &[u8],
+    place: Place,
+    memory: &mut [i32],
+) -> Turned
     requires { Running job gains.now front.now place memory.old }
     ensures { Further job gains.now front.now place result memory.new }
 {
@@ -89,13 +100,13 @@ pub fn one_turn(job: Job, gains: &[i32], front: &[u8], place: Place, memory: &mu
     let turn = eqfile::next_turn(format, channels, job.frames, place.at, place.read);
     let mut bytes = buffers::bytes();
     let wanted = turn.wanted;
-    let got = input::fetch(front, job.start + place.read, &mut bytes[..wanted]);
-    match put(job, gains, front, place, memory, turn, &bytes[..got]) {
+    let got = input::fetch(stdin, front, job.start + place.read, &mut bytes[..wanted]);
+    match put(rt, job, gains, front, place, memory, turn, &bytes[..got]) {
         Handed::Taken => Turned::On(Place {
             at: place.at + turn.fed,
             read: place.read + got,
         }),
         Handed::BadSample => Turned::NotANumber,
-        Handed::NotTaken => Turned::OutputFailed,
+        Handed::NotTaken(error) => Turned::OutputFailed(error),
     }
 }

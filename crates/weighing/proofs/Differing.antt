@@ -56,7 +56,7 @@ module _ (gains found : List ℤ) (i : ℕ) (f : Finding gains found i) where
   pub finding_on : (r : ℤ) → i < length gains → length gains ≤ 10 → r ≡ get_or gains i (pos 0) -ℤ get_or gains (i + 1) (pos 0) → nat_abs r ≤ 2 ^ 15 →
       Finding gains (set found i (raw w32 r)) (i + 1)
   finding_on r h few e s =
-      let back : raw w32 r ≡ r = to_z-of_z (record { sfits = omega (arith, about r) }) in
+      let back : raw w32 r ≡ r = to_z-of_z {w = w32} {z = r} (record { sfits = omega (arith, about r) }) in
       let same : get_or (set found i (raw w32 r)) i (pos 0) ≡ r = get_or-set_same found i (raw w32 r) (pos 0) (omega (arith, f.long)) ∙ back in
       record {
         reached = omega arith;

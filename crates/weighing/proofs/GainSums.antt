@@ -150,7 +150,7 @@ module _ {bands i : ℕ} {matrix ds : List ℤ} {s : ℤ} {b at : ℕ} (k : Summ
       let r-is : r ≡ s +ℤ d *ℤ x = er ∙ ap₂ (λ (u v : ℤ). s +ℤ u *ℤ v) (ap (raw w64) ew ∙ (widens fd).answer) (to_z-of_z fx) in
       let more : bands - (b - 1) ≡ suc (bands - b) = omega (arith, k.left) in
       let small : nat_abs r ≤ suc (bands - b) * 2 ^ 46 = rw r-is (omega (arith, abs-+ℤ s (d *ℤ x), part_small d x (sm.range (b - 1)) fx, k.bounded)) in
-      let back : raw w64 r ≡ r = to_z-of_z (record { sfits = omega (arith, about r, small) }) in
+      let back : raw w64 r ≡ r = to_z-of_z {w = w64} {z = r} (record { sfits = omega (arith, about r, small) }) in
       let here : b - 1 ≡ bands - 1 - (bands - b) = omega (arith, k.left) in
       record {
         left = omega (arith, k.left);
@@ -191,11 +191,11 @@ done_room {s = s} few d = rw (to_z-of_z {w = w64} {z = s} (record { sfits = omeg
 pub out_back : {bands i : ℕ} {matrix ds : List ℤ} {s n r : ℤ} → bands ≤ 10 → SumDone bands i matrix ds s → n ≡ nearest unity (raw w64 s) → r ≡ limit least_sample most_sample (raw w64 n) →
     raw w32 r ≡ out_of (gain_sum bands bands i matrix ds)
 out_back {s = s} {n} {r} few d en er =
-    let s-back : raw w64 s ≡ s = to_z-of_z (record { sfits = omega (arith, about s, d.bounded) }) in
+    let s-back : raw w64 s ≡ s = to_z-of_z {w = w64} {z = s} (record { sfits = omega (arith, about s, d.bounded) }) in
     let n-is : n ≡ nearest unity s = en ∙ ap (nearest unity) s-back in
-    let n-back : raw w64 n ≡ n = to_z-of_z (rw n-is (nearest_fits 4096 (lit< tt) (lit≤ tt) s (omega (arith, d.bounded)))) in
+    let n-back : raw w64 n ≡ n = to_z-of_z {w = w64} {z = n} (rw n-is (nearest_fits 4096 (lit< tt) (lit≤ tt) s (omega (arith, d.bounded)))) in
     let r-is : r ≡ out_of s = er ∙ ap (limit least_sample most_sample) (n-back ∙ n-is) in
-    to_z-of_z (rw r-is (limit24_fits (nearest unity s))) ∙ r-is ∙ ap out_of d.value
+    to_z-of_z {w = w32} {z = r} (rw r-is (limit24_fits (nearest unity s))) ∙ r-is ∙ ap out_of d.value
 
 -- outputs of all samples are the outputs of the rows
 pub outputs_weighed : (bands : ℕ) (matrix ds outs : List ℤ) → 1 ≤ bands → ((j : ℕ) → j < length outs → get_or outs j (pos 0) ≡ out_of (gain_sum bands bands j matrix ds)) → RowWeighed bands matrix ds outs
