@@ -100,10 +100,11 @@ pub fn one_turn(
     let turn = eqfile::next_turn(format, channels, job.frames, place.at, place.read);
     let mut bytes = buffers::bytes();
     let wanted = turn.wanted;
+    let fed = turn.fed;
     let got = input::fetch(stdin, front, job.start + place.read, &mut bytes[..wanted]);
     match put(rt, job, gains, front, place, memory, turn, &bytes[..got]) {
         Handed::Taken => Turned::On(Place {
-            at: place.at + turn.fed,
+            at: place.at + fed,
             read: place.read + got,
         }),
         Handed::BadSample => Turned::NotANumber,
