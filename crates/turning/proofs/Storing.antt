@@ -1,6 +1,6 @@
 -- The block of a turn is never refused, and what it stores is due. Assumes nothing.
 use mathlib.Core.Path.{◌≡◌, refl, sym, ap, subst, ◌∙◌}
-use mathlib.Core.Bool.{Bool, true, false, not}
+use mathlib.Core.Bool.{Bool, true, false}
 use mathlib.Core.List.{List, ◌∷◌, ◌++◌}
 use Prim.Native.Nat.{ℕ, zero, suc, ◌+◌, ◌-◌, ◌*◌, ◌≤◌}
 use native.Mathlib.Nat.{mul-le-mul_left}
@@ -16,7 +16,6 @@ use Rattle.blocks.specs.declared.block.Equalised.TheVariants.{Bytes, Refused}
 use Rattle.eqfile.specs.declared.turn.Turn.{Turn}
 use Rattle.eqfile.specs.Data.{samples_from, numbers_from, taken_from}
 use Rattle.blocks.specs.Equalise.{equalise_of}
-use borrow.Author.Tests.{not-true, not-false}
 use Rattle.eqfile.proofs.Turns.{Bounds, bounds}
 use Rattle.eqfile.proofs.WholeSamples.{taken_answer_lem, taken-samples}
 use Rattle.runs.specs.Program.{State, Arrives, turn_at, turn_numbers, Follows, block_done}
@@ -57,14 +56,14 @@ module _ {job : Job} {gains : List ℤ} {front : List ℕ} {place : Place} {memo
             taken_answer_lem piece job.format (take (n * turn.fed) input₀) r xs d ∙ ap (λ (k : ℕ). numbers_from k job.format piece) input_long ∙
             (λ i. numbers_from (sides i * (arrived.turn_is i).fed) job.format piece)
 
-        pub stopped : not r ≡ true → Stopped job gains front
-        stopped e = record { place = place; memory = memory; turn = turn; piece = piece; arrived = arrived; bad = sym numbers_are ∙ not-true r e }
+        pub stopped : r ≡ false → Stopped job gains front
+        stopped e = record { place = place; memory = memory; turn = turn; piece = piece; arrived = arrived; bad = sym numbers_are ∙ e }
 
-        pub came : not r ≡ false → Came job gains front place memory turn piece
-        came e = record { arrived = arrived; numbers = sym numbers_are ∙ not-false r e }
+        pub came : r ≡ true → Came job gains front place memory turn piece
+        came e = record { arrived = arrived; numbers = sym numbers_are ∙ e }
 
-        pub sampled : not r ≡ false → xs ≡ samples_from (length (take (n * turn.fed) input₀)) job.format piece
-        sampled e = taken-samples piece job.format (take (n * turn.fed) input₀) r xs d (not-false r e)
+        pub sampled : r ≡ true → xs ≡ samples_from (length (take (n * turn.fed) input₀)) job.format piece
+        sampled e = taken-samples piece job.format (take (n * turn.fed) input₀) r xs d e
 
 module _ {job : Job} {gains : List ℤ} {front : List ℕ} {place : Place} {memory : List ℤ} {turn : Turn} {piece : List ℕ} (came : Came job gains front place memory turn piece) where
   abbrev here : Arrived job gains front place memory turn piece
