@@ -1,8 +1,8 @@
 /* Eight bands, one channel, split behind band 5: at 48,000 samples a second bass below 3,000 Hz and a horn above. A click and a step in three
  * blocks of 512 frames: prints both feeds around the delay, and that at unity they add up to the input.
  *
- *     rt staticlib capi
- *     cc -Iinclude examples/crossover.c target/staticlib/libcapi.a -o crossover && ./crossover
+ *     (cd crates/capi && rt lib)
+ *     cc -Iinclude examples/crossover.c crates/capi/out/libcapi.a -o crossover && ./crossover
  */
 #include <stdio.h>
 #include "octave_eq.h"

@@ -1,7 +1,7 @@
 /* Eight bands, left and right, gains in decibels, a click on each side in blocks of 64 frames: prints the output around the delay.
  *
- *     rt staticlib capi
- *     cc -Iinclude examples/minimal.c target/staticlib/libcapi.a -o minimal && ./minimal
+ *     (cd crates/capi && rt lib)
+ *     cc -Iinclude examples/minimal.c crates/capi/out/libcapi.a -o minimal && ./minimal
  */
 #include <stdio.h>
 #include "octave_eq.h"

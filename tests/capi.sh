@@ -8,8 +8,8 @@ source tests/x86.sh
 made=$(mktemp -d)
 trap 'rm -rf "$made"' EXIT
 # What capi stands on is taken as it was proved; rt checks capi itself once more, since it keeps no archive of a proved library.
-rt staticlib capi > "$made/log" 2>&1 || { cat "$made/log"; exit 1; }
-archive=target/staticlib/libcapi.a
+(cd crates/capi && rt lib) > "$made/log" 2>&1 || { cat "$made/log"; exit 1; }
+archive=crates/capi/out/libcapi.a
 for example in minimal crossover; do
     "${CC[@]}" "${CFLAGS[@]}" "examples/$example.c" "$archive" -o "$made/$example"
     "${RUN[@]}" "$made/$example" | diff "examples/$example.expected" -

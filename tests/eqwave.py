@@ -19,7 +19,7 @@ from runs import BITS, PROGRAM, SIDES, TOP, ZERO
 from runs import as_wanted, equalised, expect, format_of, gains_of, interleaved, noise, refused, run, run_limited, run_slowly
 from runs import samples, settings, wanted, widened
 
-BUILT = os.path.join(TOP, "target", "bin", "eqwave")
+BUILT = os.path.join(TOP, "crates", "eqwave", "out", "eqwave")
 STORED = os.path.join(TOP, "crates", "eqwave")
 FILES = os.path.join(TOP, "tests", "files")
 EXAMPLE = os.path.join(TOP, "examples", "chirp.wav")

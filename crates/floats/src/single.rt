@@ -7,7 +7,7 @@ use answers::range::within;
 use answers::unit::{LEAST_SAMPLE, MOST_SAMPLE};
 
 // What `sample_to_float` answers.
-#[derive(Drop)]
+#[derive(Clone, Copy)]
 pub enum Floated {
     Is(f32),
     // 19: the number is out of range.

@@ -1,12 +1,12 @@
 -- One chunk of the walk: what each way through the code gives is what the definitions say. Assumes nothing.
 use mathlib.Core.Path.{◌≡◌, sym, ap, subst, ◌∙◌}
-use mathlib.Core.Bool.{Bool, true, false, not, ◌||◌}
+use mathlib.Core.Bool.{Bool, true, false, ◌||◌}
 use mathlib.Core.List.{List}
 use Prim.Native.Nat.{ℕ, ◌+◌, ◌≤◌}
 use native.Mathlib.Omega.{arith}
 use lib.ListN.{length}
 use lib.Dec.{eqb}
-use borrow.Author.Tests.{eqb-true, eq-eqb, ne_eqb, leb-true, not-true, not-false}
+use borrow.Author.Tests.{eqb-true, eq-eqb, ne_eqb, leb-true}
 use Rattle.fields.proofs.ByTest.{by-test}
 use Rattle.wave.specs.Private.{FormatThere}
 use Rattle.answers.specs.Answer.{Answer}
@@ -35,18 +35,18 @@ known_long size h =
 
 -- what the code learnt of the length is true of the field
 module _ (rest : List ℕ) (size : ℕ) (k : Bool) (s : size ≡ size_in lowest rest) (e : k ≡ known_length size) where
-  pub length_unknown : not k ≡ true → known_length (size_in lowest rest) ≡ false
-  length_unknown n = ap known_length (sym s) ∙ sym e ∙ not-true k n
+  pub length_unknown : k ≡ false → known_length (size_in lowest rest) ≡ false
+  length_unknown n = ap known_length (sym s) ∙ sym e ∙ n
 
-  pub length_known : not k ≡ false → known_length (size_in lowest rest) ≡ true
-  length_known n = ap known_length (sym s) ∙ sym e ∙ not-false k n
+  pub length_known : k ≡ true → known_length (size_in lowest rest) ≡ true
+  length_known n = ap known_length (sym s) ∙ sym e ∙ n
 
 -- a `fmt ` of a known length that is all there has its values
-pub values_there : (rest : List ℕ) (r : Bool) → known_length (size_in lowest rest) ≡ true → r ≡ contained lowest rest → not r ≡ false → FormatThere rest
+pub values_there : (rest : List ℕ) (r : Bool) → known_length (size_in lowest rest) ≡ true → r ≡ contained lowest rest → r ≡ true → FormatThere rest
 values_there rest r known is n =
     record {
       long = known_long (size_in lowest rest) known;
-      there = leb-true (header_length + size_in lowest rest) (length rest) (sym is ∙ not-false r n);
+      there = leb-true (header_length + size_in lowest rest) (length rest) (sym is ∙ n);
     }
 
 -- the length that was read is not the longer one, or it is

@@ -8,7 +8,7 @@ use samples::{Channels, Format};
 use wave_values::frame_size;
 
 // What `read` answers.
-#[derive(Drop)]
+#[derive(Clone, Copy)]
 pub enum Reading {
     // `length` bytes of samples start at `start`.
     Accepted {

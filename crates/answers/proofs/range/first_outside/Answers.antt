@@ -8,7 +8,7 @@ returns-then-not-within c =
 
 pub loop-i-preserved : goal.loop-i-preserved
 loop-i-preserved c =
-   (omega arith, goes_on c.args.s.now c.loop-i.i c.ranges.lo c.ranges.hi c.loop-i.invariant.1 c.loop-i-test.true (omega arith) c.within.ensures c.if-not-within.false)
+    (omega arith, goes_on c.args.s.now c.loop-i.i c.ranges.lo c.ranges.hi c.loop-i.invariant.1 c.loop-i-test.true (omega arith) c.within.ensures c.if-not-within.false)
 
 pub returns : goal.returns
 returns c = ends c.args.s.now c.loop-i.i c.ranges.lo c.ranges.hi c.loop-i.invariant.1 c.loop-i-test.false
