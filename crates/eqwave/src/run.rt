@@ -35,13 +35,7 @@ fn stop(rt: &impl Eprint, job: Job, gains: &[i32], front: &[u8])
 }
 
 // The pad behind the last sample. It fails where standard output does not take it.
-fn put_pad(
-    rt: &impl Print,
-    job: Job,
-    gains: &[i32],
-    front: &[u8],
-    read: usize,
-) -> io::Result<()>
+fn put_pad(rt: &impl Print, job: Job, gains: &[i32], front: &[u8], read: usize) -> io::Result<()>
     requires { Ended job gains.now front.now read }
 {
     let zero = [0u8; 1];
@@ -92,12 +86,7 @@ fn turns(
 }
 
 // The header of a run that has started. It fails where standard output does not take it.
-fn put_header(
-    rt: &impl Print,
-    rate: u32,
-    channels: Channels,
-    frames: u32,
-) -> io::Result<()>
+fn put_header(rt: &impl Print, rate: u32, channels: Channels, frames: u32) -> io::Result<()>
     requires { Begun rate channels frames }
 {
     let mut header = [0u8; 44];

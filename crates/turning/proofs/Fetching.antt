@@ -10,7 +10,6 @@ use mir.Val.{Fits}
 use lib.ListN.{length, get_or, take, drop, length-append, length-take, length-drop}
 use lib.Seq.{take_all, take_at, take-append-add, take-append-le, length-take-le}
 use Rattle.fields.specs.Bytes as fields
-use Rattle.blocks.specs.declared.block.Equalised.TheVariants.{Bytes}
 use Rattle.eqfile.specs.Front.{carry_of}
 use Rattle.runs.specs.Program.{Fetched}
 use Rattle.fields.proofs.Numbers.{bytes_take}

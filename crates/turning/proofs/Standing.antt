@@ -1,18 +1,17 @@
 -- Where a run stands: within its bounds, further on after each turn, and at its end. Assumes nothing.
 use mathlib.Core.Path.{◌≡◌, sym, ap, subst, ◌∙◌}
 use mathlib.Core.List.{List, [], ◌∷◌, ◌++◌}
-use Prim.Native.Nat.{ℕ, ◌+◌, ◌-◌, ◌*◌, ◌≤◌, min}
+use Prim.Native.Nat.{ℕ, ◌+◌, ◌*◌, ◌≤◌, min}
 use native.Mathlib.Nat.{mul-le-mul_right, mul-le-mul_left, zero-add}
 use native.Mathlib.Omega.{arith}
 use mir.Syntax.{w64}
 use mir.Val.{Fits}
-use lib.ListN.{length, take, drop, replicate, length-append, length-take, length-replicate}
+use lib.ListN.{length, take, drop, replicate, length-append, length-replicate}
 use lib.Seq.{take-append-le, length-take-le}
 use lib.IntN.{ℤ}
 use Rattle.answers.specs.Unit.{turn_limit, turn_room, largest_data}
 use Rattle.samples.specs.Channels.{count_of}
 use Rattle.fields.specs.Bytes as fields
-use Rattle.blocks.specs.declared.block.Equalised.TheVariants.{Bytes}
 use Rattle.eqfile.specs.declared.turn.Turn.{Turn}
 use Rattle.eqfile.specs.Turn.{fed_in_all, turn_of}
 use Rattle.eqfile.proofs.Turns.{Bounds, bounds, few_bytes, few_channels}

@@ -23,13 +23,7 @@ pub fn hand_header(
 }
 
 // What a turn's block stored. It fails where standard output does not take it.
-pub fn hand(
-    rt: &impl Print,
-    bytes: &[u8],
-    job: Job,
-    gains: &[i32],
-    front: &[u8],
-) -> io::Result<()>
+pub fn hand(rt: &impl Print, bytes: &[u8], job: Job, gains: &[i32], front: &[u8]) -> io::Result<()>
     requires { Due job gains.now front.now bytes.now }
 {
     rt.write_all(bytes)

@@ -1,5 +1,5 @@
 -- What was carried, and what came in behind it.
-use Rattle.std.proofs.Common.{◌≤◌, length, rules, arith}
+use Rattle.std.proofs.Common.{rules}
 use Rattle.turning.proofs.Fetching.{carried-within, came_in}
 use Rattle.turning.proofs.input.fetch.Goals as goal
 

@@ -1,7 +1,7 @@
 -- The bytes of the next turn came, its block was handed over, and the run stands further on.
 use Rattle.std.proofs.Common.{sym, arith, ◌++◌, take, drop}
 use lib.Seq.{length-take-le}
-use Rattle.turning.proofs.Standing.{limits, at_fits, read_fits, start_fits, wanted_there, got_few, got_there, piece_long, piece_came, further}
+use Rattle.turning.proofs.Standing.{limits, at_fits, read_fits, start_fits, wanted_there, got_few, piece_long, piece_came, further}
 use Rattle.turning.proofs.turn.one_turn.Goals as goal
 
 pub overflow_add-job : goal.overflow_add-job

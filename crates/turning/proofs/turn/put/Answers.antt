@@ -1,8 +1,6 @@
 -- The block is that of the run's turn, and its bytes are due.
-use Rattle.std.proofs.Common.{◌≡◌, ◌*◌, length, take, sym, arith}
+use Rattle.std.proofs.Common.{sym, arith}
 use lib.Seq.{length-take-le}
-use Rattle.eqfile.specs.Data.{samples_from}
-use Rattle.turning.specs.Running.{Came}
 use Rattle.turning.proofs.Storing.{samples_few, skipped_few, stopped, came, sampled, samples_there, bytes_there, memory_is, not_refused, stored_there, due}
 use Rattle.turning.proofs.turn.put.Goals as goal
 
