@@ -9,7 +9,7 @@ use Prim.Native.Nat.{ℕ, zero, suc, ◌-◌, ◌*◌, ◌≤◌}
 use native.Mathlib.Omega.{arith}
 use borrow.Author.Tests.{eq-eqb, ne_eqb, le-leb, eqb-true, eqb-false, leb-true}
 use lib.Dec.{leb}
-use lib.ListN.{length, take, drop, replicate, length-drop}
+use lib.ListN.{length, take, drop, replicate, length-drop, length-append}
 use lib.Seq.{take_at, drop-append-le}
 use lib.IntN.{ℤ, pos}
 use Rattle.answers.specs.Answer.{number_in}
@@ -117,6 +117,9 @@ module _ (memory gains input : List ℤ) (skipped : ℕ) (stored : List ℕ) (l 
 
       o_long : length o ≡ length input
       o_long = ap length o_is ∙ equalised_long memory gains input (held_whole memory gains input (zeros input) held)
+
+      pub outputs_there : (rest : List ℤ) → length input ≤ length (o ++ rest)
+      outputs_there rest = omega (arith, o_long, length-append o rest)
 
       pub call_stored : (rest : List ℤ) (r : Stored) (t : List ℕ) → length t ≡ length stored →
           Done (block_to (take (length input - skipped) (drop skipped (o ++ rest))) stored) r t → Done (equalise_of memory gains input skipped stored) (Bytes (length t)) (m, t)

@@ -7,8 +7,8 @@ use borrow.Author.Rules.{sfits_of}
 use lib.IntN.{ℤ, pos, negsuc, ◌+ℤ◌}
 use lib.Signed.{mag}
 use mir.Syntax.{w64}
-use mir.Val.{to_z, of_z}
-use mir.Facts.{to_z-of_z}
+use mir.Val.{SFits, to_z, of_z}
+use mir.Facts.{to_z-of_z, to_z_pos}
 use Rattle.answers.specs.Answer.{Answer, accepted, refused, number_in, place_in}
 use Rattle.answers.specs.Checks.{Outcome, Done}
 use Rattle.encoding.specs.Answers.{of_count, Returned}
@@ -25,6 +25,17 @@ returned e small = to_z-of_z {w = w64} (sfits_of {w = w64} small) ∙ e
 pub above-least : (k : ℕ) → k < 2 ^ 63 → least +ℤ pos k ≡ negsuc (9223372036854775807 - k)
 above-least k h = rw (lt-ltb k 9223372036854775808 h) (ap negsuc (omega arith))
 
+-- that sum neither leaves 64 bits nor is another number
+pub record Sum (k : ℕ) : Type 0 where
+  pub fits : SFits w64 (least +ℤ to_z w64 k)
+  pub is : to_z w64 (of_z w64 (least +ℤ to_z w64 k)) ≡ least +ℤ pos k
+
+pub sum : (k : ℕ) → k < 2 ^ 63 → Sum k
+sum k h = record { fits = in_range; is = to_z-of_z in_range ∙ ap (λ (z : ℤ). least +ℤ z) (to_z_pos w64 h) }
+  where
+    in_range : SFits w64 (least +ℤ to_z w64 k)
+    in_range = rw (to_z_pos w64 h, above-least k h) (sfits_of {w = w64} (omega arith))
+
 -- ---- an answer from its parts
 
 parts : (a : Answer ℤ) → Returnable a → encode_parts (number_in a) (place_in a) (value_in (pos 0) a) ≡ encode a
@@ -37,6 +48,10 @@ unfolding encode
 count_parts (accepted n) h = refl
 count_parts (refused number place) h = parts (refused number place) h
 
+place_small : (a : Answer ℤ) → Returnable a → place_in a < 2 ^ 54
+place_small (accepted z) h = omega arith
+place_small (refused number place) h = h.2
+
 count_small : (a : Answer ℕ) → Counted a → (place_in a < 2 ^ 54) × (value_in 0 a < 2 ^ 63)
 count_small (accepted n) h = (omega arith, h)
 count_small (refused number place) h = (h.2, omega arith)
@@ -45,6 +60,9 @@ count_small (refused number place) h = (h.2, omega arith)
 
 -- a signed one
 module _ {a b : Answer ℤ} (same : a ≡ b) (h : Returnable b) {number place : ℕ} {z : ℤ} (p : Parts (pos 0) a number place z) where
+  pub signed_fits : place < 2 ^ 54
+  signed_fits = rw (p.place_is, same) (place_small b h)
+
   pub signed_is : {code : ℤ} → code ≡ encode_parts number place z → mag code < 2 ^ 63 → to_z w64 (of_z w64 code) ≡ encode b
   signed_is e fits = returned (e ∙ rw (p.number_is, p.place_is, p.value_is, same) (parts b h)) fits
 

@@ -4,8 +4,8 @@ use mathlib.Core.List.{List, [], ◌∷◌, ◌++◌}
 use Prim.Native.Nat.{ℕ, ◌+◌, ◌-◌, ◌≤◌, ◌<◌, min}
 use native.Mathlib.Numerals.{add-one}
 use native.Mathlib.Omega.{arith}
-use lib.ListN.{length, get_or, take, drop, set, length-set}
-use lib.Seq.{take-suc, take-suc-set, take_all}
+use lib.ListN.{length, get_or, take, drop, set, length-set, length-take, length-drop}
+use lib.Seq.{take-suc, take-suc-set, take_all, length-take-le}
 use Rattle.eqfile.specs.Front.{carry_of}
 
 -- i bytes are copied
@@ -34,6 +34,12 @@ module _ (front bytes : List ℕ) (from left n : ℕ) (there : left ≡ length f
   pub nothing_there : n ≡ 0 → (0, bytes) ≡ carry_of front from bytes
   unfolding carry_of
   nothing_there z = ap (λ (k : ℕ). (k, take k (drop from front) ++ drop k bytes)) (sym z ∙ is ∙ ap (λ (k : ℕ). min k (length bytes)) there)
+
+  pub part_long : length (take n bytes) ≡ n
+  part_long = length-take-le n bytes (omega arith)
+
+  pub parts_alike : length (take (from + n - from) (drop from front)) ≡ length (take n bytes)
+  parts_alike = simp (length-take, length-drop) (omega arith)
 
   pub carried : (new : List ℕ) → new ≡ take (from + n - from) (drop from front) → (n, new ++ drop n bytes) ≡ carry_of front from bytes
   unfolding carry_of

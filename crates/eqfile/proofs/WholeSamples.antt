@@ -1,5 +1,6 @@
 -- The samples that are wholly there, and zeros after them. Assumes nothing.
-use mathlib.Core.Path.{◌≡◌, refl, sym, ap, ap₂, ◌∙◌}
+use mathlib.Core.Path.{◌≡◌, refl, sym, ap, ap₂, subst, ◌∙◌}
+use mathlib.Core.Logic.{inl, inr}
 use mathlib.Core.Bool.{Bool, true, false, cond}
 use mathlib.Core.List.{List, [], ◌∷◌, ◌++◌, append-nil}
 use Prim.Native.Nat.{ℕ, zero, suc, ◌+◌, ◌-◌, ◌*◌, ◌/◌, ◌%◌, ◌≤◌, ◌<◌, min}
@@ -10,6 +11,8 @@ use lib.ListN.{length, take, drop, replicate, length-take, length-drop, length-a
 use lib.Seq.{take-nil, take_at, drop_at, take-take, length-take-le}
 use lib.IntN.{ℤ, pos}
 use borrow.Rule.Slice.PartMut.{put_mid}
+use types.Run.{OneOf}
+use denote.Enum.Declared.{tag_of}
 use Rattle.answers.specs.Checks.{check, Outcome, Done, decide}
 use Rattle.answers.specs.First.{first_failing}
 use Rattle.samples.specs.Samples.{samples_of, pieces_of, first_bad, all_samples, block_from}
@@ -18,6 +21,7 @@ use Rattle.samples.specs.Sample.{is_sample_in, sample_in}
 use Rattle.samples.specs.declared.format.Format.{Format}
 use Rattle.samples.specs.declared.block.Taken.{Taken}
 use Rattle.samples.specs.declared.block.Taken.TheVariants.{Samples, NotNumber}
+use Rattle.samples.specs.contracts.block.Taken as declared
 use Rattle.samples.proofs.Taking.{length-samples}
 use Rattle.eqfile.specs.Data.{there_of, samples_from, numbers_from, taken_from}
 use Rattle.eqfile.proofs.Turns.{few_bytes}
@@ -50,6 +54,11 @@ pieces_in_front (suc n) size s =
 -- an answer of samples is no other
 clash : {n i : ℕ} → Samples n ≡ NotNumber i → ⊥
 clash e = let z : ◌≡◌ {A = ℕ} 0 1 = cc in omega arith
+
+not_tagged : (n : ℕ) → OneOf (1 ∷ 2 ∷ 3 ∷ []) (tag_of declared.the_type (Samples n)) → ⊥
+not_tagged n (inl t) = omega arith
+not_tagged n (inr (inl t)) = omega arith
+not_tagged n (inr (inr t)) = omega arith
 
 module _ (format : Format) (s : List ℕ) (samples : List ℤ) (size k : ℕ) (is : size ≡ size_of format) (here : k ≡ min (length s / size) (length samples)) where
   some : 0 < size

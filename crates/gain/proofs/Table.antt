@@ -26,14 +26,14 @@ entry_test : ℤ → Bool
 entry_test n = rule_test n (entry n)
 
 -- the one computed test
-every-entry : T (every entry_test)
+every_entry : T (every entry_test)
 unfolding entry_test rule_test entry
-every-entry = tt
+every_entry = tt
 
 -- the fortieth-power rule, at every n from -24 to 24
 pub rule : (n : ℤ) → nat_abs n ≤ 24 → FortiethRule n (entry n)
 unfolding entry_test
-rule n h = rule_right n (entry n) (at_half entry_test every-entry n h)
+rule n h = rule_right n (entry n) (at_half entry_test every_entry n h)
 
 -- no second entry meets the rule
 odd_step : (g h : ℕ) → g < h → 2 * g + 1 ≤ 2 * h - 1
@@ -66,9 +66,9 @@ above_test m n = not (lt_z m n) || ltb (entry m) (entry n)
 row_test : ℤ → Bool
 row_test m = every (above_test m)
 
-every-row : T (every row_test)
+every_row : T (every row_test)
 unfolding row_test above_test entry
-every-row = tt
+every_row = tt
 
 passed : (a b : Bool) → T (not a || b) → T a → T b
 passed true b t h = t
@@ -78,7 +78,7 @@ passed false b t h = absurd h
 pub increasing : (m n : ℤ) → nat_abs m ≤ 24 → nat_abs n ≤ 24 → m <ℤ n → entry m < entry n
 unfolding row_test above_test
 increasing m n h k l =
-    ltb→lt (entry m) (entry n) (passed (lt_z m n) (ltb (entry m) (entry n)) (at_half (above_test m) (at_half row_test every-row m h) n k) l.lt)
+    ltb→lt (entry m) (entry n) (passed (lt_z m n) (ltb (entry m) (entry n)) (at_half (above_test m) (at_half row_test every_row m h) n k) l.lt)
 
 -- ---- unity
 
@@ -92,9 +92,9 @@ unity_test n =
     let b = entry (neg_ℤ n) in
     leb (2 * (a * b)) (2 * unit.unity ^ 2 + (a + b)) && leb (2 * unit.unity ^ 2) (2 * (a * b) + (a + b))
 
-every-unity : T (every unity_test)
+every_unity : T (every unity_test)
 unfolding unity_test entry
-every-unity = tt
+every_unity = tt
 
 near : (a b : ℕ) → T (leb (2 * (a * b)) (2 * unit.unity ^ 2 + (a + b)) && leb (2 * unit.unity ^ 2) (2 * (a * b) + (a + b))) → NearUnity a b
 near a b t =
@@ -105,7 +105,7 @@ near a b t =
 -- the gains of n and of -n half decibels multiply to unity
 pub unity : (n : ℤ) → nat_abs n ≤ 24 → NearUnity (entry n) (entry (neg_ℤ n))
 unfolding unity_test
-unity n h = near (entry n) (entry (neg_ℤ n)) (at_half unity_test every-unity n h)
+unity n h = near (entry n) (entry (neg_ℤ n)) (at_half unity_test every_unity n h)
 
 -- ---- the table as it is written, by places
 

@@ -3,7 +3,7 @@ use mathlib.Core.Path.{◌≡◌, refl, sym, ap, ◌∙◌, subst}
 use mathlib.Core.Bool.{true}
 use mathlib.Core.List.{List, [], ◌∷◌, ◌++◌, append-nil}
 use Prim.Native.Nat.{ℕ, zero, suc, ◌+◌, ◌*◌, ◌/◌, ◌%◌, ◌<◌, ◌≤◌}
-use native.Mathlib.Nat.{le_of_suc-le-suc, not-suc-le-zero, mul-zero}
+use native.Mathlib.Nat.{le_of_suc-le-suc, not-suc-le-zero, mul-zero, add-zero, div-add-mod, mul-le-mul}
 use native.Mathlib.Numerals.{add-one}
 use native.Mathlib.Omega.{arith}
 use lib.ListN.{length, get_or, take, drop, set, length-set, drop_of_length-le}
@@ -82,6 +82,16 @@ module _ (format : Format) (s : List ℕ) (old : List ℤ) where
       t.done
       ∙ ap (λ (r : List ℤ). r ++ drop i old) (take_all i (samples_of (length old) format s) (subst (λ (k : ℕ). k ≤ i) (sym m) l))
       ∙ ap (λ (r : List ℤ). samples_of (length old) format s ++ r) (drop_of_length-le old l) ∙ append-nil (samples_of (length old) format s)
+
+-- whole samples: the bytes are as many as the samples' sizes together
+pub whole_is : (n m size k : ℕ) → size ≡ k → n % size ≡ 0 → m ≡ n / size → n ≡ k * m
+whole_is n m size k e r q =
+    sym (div-add-mod n size) ∙ ap (λ (x : ℕ). size * (n / size) + x) r ∙ add-zero (size * (n / size))
+    ∙ ap (λ (x : ℕ). size * x) (sym q) ∙ ap (λ (x : ℕ). x * m) e
+
+-- one sample more has its bytes
+pub room : (k i m n at : ℕ) → at ≡ k * i → i < m → n ≡ k * m → at + k ≤ n
+room k i m n at e h f = let l : k * (i + 1) ≤ k * m = mul-le-mul (omega arith) (omega arith) in omega arith
 
 -- where every check holds, the call answers its samples
 pub all_taken : (s : List ℕ) (format : Format) (samples last : List ℤ) (size : ℕ) → size ≡ size_of format → length s % size ≡ 0 → length samples ≡ length s / size →

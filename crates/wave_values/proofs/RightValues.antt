@@ -1,4 +1,4 @@
--- The right values: the rates are small, and so is a byte rate. Assumes nothing.
+-- The right values: the rates and a frame's bytes are small. Assumes nothing.
 use mathlib.Core.Path.{◌≡◌, ap, subst}
 use mathlib.Core.Bool.{Bool, true, ◌||◌}
 use Prim.Native.Nat.{ℕ, ◌*◌, ◌<◌, ◌≤◌}
@@ -16,6 +16,19 @@ rate_small rate h =
     by-test (eqb rate 44100)
     (λ t. omega (arith, eqb-true rate 44100 t))
     (λ t. omega (arith, eqb-true rate 48000 (subst (λ (b : Bool). (b || eqb rate 48000) ≡ true) t h)))
+
+-- a frame of one or two channels has up to eight bytes
+pub record FrameSmall (size : ℕ) : Type 0 where
+  pub least : 0 < size
+  pub most : size < 9
+
+pub frame_small : {count each : ℕ} → 0 < count → count < 3 → 0 < each → each < 5 → FrameSmall (count * each)
+frame_small {count} {each} c d e f =
+    let least : 1 * 1 ≤ count * each = mul-le-mul c e in
+    let two : count ≤ 2 = omega arith in
+    let four : each ≤ 4 = omega arith in
+    let most : count * each ≤ 2 * 4 = mul-le-mul two four in
+    record { least = omega arith; most = omega arith }
 
 -- the byte rate of a known rate fits
 pub product_fits : (rate size : ℕ) → rate ≤ 48000 → size < 9 → rate * size < 4294967296
