@@ -5,7 +5,7 @@ use Rattle.turning.proofs.Standing.{limits, at_fits, read_fits, start_fits, want
 use Rattle.turning.proofs.turn.one_turn.Goals as goal
 
 pub overflow_add-job : goal.overflow_add-job
-overflow_add-job g c = start_fits c.requires
+overflow_add-job g c = let most = (start_fits c.requires).fits in omega arith
 
 pub slice_bounds-bytes-end : goal.slice_bounds-bytes-end
 slice_bounds-bytes-end g c = wanted_there c.requires c.next_turn-turn.ensures c.bytes-bytes.ensures
