@@ -4,8 +4,8 @@
  *
  * Link with libcapi.a (x86-64 Linux), which needs memset and memcpy and nothing else. No call allocates, keeps a state of
  * its own or calls back, and each comes back, whatever it is handed. Calls on different places may run at the same time.
- * oeq_block and oeq_crossover take about 2.4 KiB of stack at two bands and 4.7 KiB at ten, measured; the other calls take
- * less.
+ * oeq_block and oeq_crossover take about 2.4 KiB of stack at two bands and 4.7 KiB at ten, measured as the older kit built them;
+ * the other calls take less.
  *
  * NUMBERS
  *   sample   int32_t, -8,388,608 to 8,388,607: 24 bits, full scale at both ends.
