@@ -1,16 +1,16 @@
 -- The number and the value of each case that a call of this crate answers (rule 6.8). The numbers stand here alone.
 use Rattle.std.specs.Prelude.{ℕ}
 use Rattle.answers.specs.Answer.{Answer, accepted, refused}
-use Rattle.octave.specs.declared.memory.Length as length
+use Rattle.octave.specs.declared.memory.Length as lengths
 use Rattle.octave.specs.declared.memory.Prepared as prepared
 use Rattle.octave.specs.declared.memory.Fault as fault
 use Rattle.octave.specs.declared.block.Blocked as blocked
 
 -- rule 6.8, memory length
-abbrev pub length_answer : length.Length → Answer ℕ
-length_answer (length.TheVariants.Places n) = accepted n
-length_answer length.TheVariants.BandCount = refused 1 0
-length_answer length.TheVariants.ChannelCount = refused 9 0
+abbrev pub length_answer : lengths.Length → Answer ℕ
+length_answer (lengths.TheVariants.Places n) = accepted n
+length_answer lengths.TheVariants.BandCount = refused 1 0
+length_answer lengths.TheVariants.ChannelCount = refused 9 0
 
 -- rule 6.8, prepare
 abbrev pub prepared_answer : prepared.Prepared → Answer ℕ

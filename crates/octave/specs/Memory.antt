@@ -7,7 +7,7 @@ use Rattle.answers.specs.Unit.{fewest_bands, most_bands, fewest_channels, most_c
 use Rattle.tree.specs.Prototype.{published}
 use Rattle.tree.specs.Tree.{delay}
 use Rattle.octave.specs.declared.memory.Length.{Length}
-use Rattle.octave.specs.declared.memory.Length.TheVariants as place-count
+use Rattle.octave.specs.declared.memory.Length.TheVariants as place_count
 use Rattle.octave.specs.declared.memory.Prepared.{Prepared}
 use Rattle.octave.specs.declared.memory.Prepared.TheVariants.{Delay, BandCount, ChannelCount, MemoryLength}
 use Rattle.octave.specs.declared.memory.Fault.{Fault}
@@ -58,8 +58,8 @@ channels_allowed = within fewest_channels most_channels
 -- rule 6.8, memory length
 abbrev pub memory_length_of : (bands channels : ℤ) → Length
 memory_length_of bands channels =
-    choose (check (count_allowed bands) place-count.BandCount ∷ check (channels_allowed channels) place-count.ChannelCount ∷ [])
-    (place-count.Places (memory_length (nat_abs bands) (nat_abs channels)))
+    choose (check (count_allowed bands) place_count.BandCount ∷ check (channels_allowed channels) place_count.ChannelCount ∷ [])
+    (place_count.Places (memory_length (nat_abs bands) (nat_abs channels)))
 
 -- rule 5.5: the counts, the position 0, and zeros
 abbrev pub prepared : (M channels : ℕ) → List ℤ
