@@ -37,13 +37,13 @@ pass-requires c =
         memory_kept = p.memory_kept;
         counted = omega (arith, length-take-le s gains first, p.below);
         allowed = first-within s gains p.allowed;
-        alike = p.low_alike;
+        alike = omega arith;
         whole = p.whole;
       },
       record {
         counted = λ _. omega (arith, high-long p.memory_kept gains high.result s p.counted high.ensures);
         allowed = rw high-is (gains-within horn s gains p.allowed);
-        alike = λ _. p.high_alike;
+        alike = λ _. omega arith;
       },
     )
 
