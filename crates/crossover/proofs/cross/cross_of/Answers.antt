@@ -1,8 +1,11 @@
 -- Each return has the checks that led there.
 use Rattle.std.proofs.Common.{◌≡◌, ◌∙◌, ◌-◌, ◌≤◌, sym, ap, ap₂, ℕ, List, Bool, ℤ, pos, FitsSigned, w32, to_z, of_z, to_z-of_z, arith}
+use borrow.Author.Tests.{eq-eqb}
+use lib.ListN.{length}
 use mir.Facts.{to_z_pos}
-use Rattle.answers.specs.Range.{within}
-use Rattle.answers.proofs.Branches.{judging}
+use Rattle.answers.specs.Range.{within, first_outside}
+use Rattle.answers.specs.Unit.{largest_gain}
+use Rattle.answers.proofs.Branches.{judging, found_none}
 use Rattle.octave.specs.Memory.{bands_in}
 use Rattle.octave.specs.Helpers.{KeptCounts}
 use Rattle.octave.proofs.Memories.{accepted_is, bands_few}
@@ -47,3 +50,15 @@ pub returns-then-horn-input : goal.returns-then-horn-input
 returns-then-horn-input c =
     let w = split-told c.requires c.ranges.split c.within.ensures c.if-not-within.false in
     search judging depth 12
+
+pub cross_input-requires : goal.cross_input-requires
+cross_input-requires c =
+    let a = c.args in
+    record {
+      memory_kept = c.requires;
+      counted = eq-eqb (length a.gains.now) (bands_in a.memory.now) (omega (arith, c.requires.bands_are));
+      split_allowed_lem = rw (to_z-of_z {w = w32} {z = a.split} c.ranges.split) (split-told c.requires c.ranges.split c.within.ensures c.if-not-within.false);
+      gains_allowed = found_none (length a.gains.now) (first_outside (pos 0) (pos largest_gain) a.gains.now) c.first_outside.result c.first_outside.ensures c.if-first_outside-gains.false;
+      low_alike = eq-eqb (length a.bass.now) (length a.input.now) (omega arith);
+      high_alike = eq-eqb (length a.horn.now) (length a.input.now) (omega arith);
+    }
