@@ -13,7 +13,7 @@ pub(crate) enum Place {
 }
 
 // What an argument comes to.
-#[derive(Drop)]
+#[derive(Clone, Copy)]
 pub enum Argument {
     Gain(i32),
     // 30

@@ -8,7 +8,7 @@ use answers::unit::TURN_ROOM;
 use octave::block::{Blocked, block};
 
 // What `equalise` answers.
-#[derive(Drop)]
+#[derive(Clone, Copy)]
 pub enum Equalised {
     // The number of bytes stored.
     Bytes(usize),

@@ -11,7 +11,7 @@ use frames::count::{frames_in, whole_frames};
 use octave::memory::{Fault, Kept, judge};
 
 // What a crossover call answers: how many frames were written, or why it was refused; a sample by its place in the input.
-#[derive(Drop)]
+#[derive(Clone, Copy)]
 pub enum Crossed {
     Written(usize),
     Memory(Fault),

@@ -3,11 +3,11 @@ ghost use Rattle.std.specs.Prelude.{◌≡◌, ◌<◌, ◌^◌, pos};
 ghost use Rattle.encoding.specs.Parts.{encode_parts};
 
 // The parts of an answer that is a count: the number of a refusal, 0 where there is none, its place, and the value.
-#[derive(Drop)]
+#[derive(Clone, Copy)]
 pub struct CountParts(pub u8, pub usize, pub usize);
 
 // .. and of one with a sign.
-#[derive(Drop)]
+#[derive(Clone, Copy)]
 pub struct SignedParts(pub u8, pub usize, pub i32);
 
 fn encoded(number: u8, place: usize, value: i64) -> i64

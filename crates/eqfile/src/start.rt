@@ -10,7 +10,7 @@ use samples::{Channels, Format, channel_count};
 use wave::Reading;
 use wave_values::frame_size;
 
-#[derive(Drop)]
+#[derive(Clone, Copy)]
 pub enum Start {
     // `frames` frames of a format in one or two channels, whose bytes begin at `start` of the front.
     Run {

@@ -13,7 +13,7 @@ use whole::counts::{least, left};
 
 // A turn of the run, one block: how many frames are fed, how many bytes are to be read for them, how many of their outputs are dropped, and how many bytes
 // the others make.
-#[derive(Drop)]
+#[derive(Clone, Copy)]
 pub struct Turn {
     pub fed: usize,
     pub wanted: usize,

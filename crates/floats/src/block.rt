@@ -10,7 +10,7 @@ use crate::code::is_sample;
 use crate::single::sample_from_float;
 
 // What `samples_from_floats` answers.
-#[derive(Drop)]
+#[derive(Clone, Copy)]
 pub enum FloatBlock {
     // The number of samples.
     Samples(usize),

@@ -9,7 +9,7 @@ ghost use Rattle.floats.specs.Exponent.{end_of, shifted, by_exponent};
 use answers::unit::{LEAST_SAMPLE, MOST_SAMPLE};
 
 // What a float is as a sample.
-#[derive(Drop)]
+#[derive(Clone, Copy)]
 pub enum FloatSample {
     Is(i32),
     // 41: a NaN or an infinity.

@@ -9,7 +9,7 @@ mod factor;
 
 pub use decibels::half_decibel;
 
-#[derive(Drop)]
+#[derive(Clone, Copy)]
 pub enum Command {
     Decibels(f32),
     Factor(f32),
@@ -17,7 +17,7 @@ pub enum Command {
 }
 
 // A gain from 0 to 16,384, where 4,096 is unity; or refusal 11, or refusal 12.
-#[derive(Drop)]
+#[derive(Clone, Copy)]
 pub enum Gained {
     Gain(i32),
     NotHalfDecibels,

@@ -24,7 +24,7 @@ module _ (p : Prototype) (size : ℕ) where
   within k at L lines h r =
       record { inside = h; reach = reach_of p size L lines k r; some = r.stretch; held = held_of p size L lines k r; small = r.small }
 
-  -- the tree's delay is how far back the aligned sample stands: all of the ring but D-as-L
+  -- the tree's delay is how far back the aligned sample stands: all of the ring but D·L
   pub delay_is : (k L : ℕ) (lines : List ℤ) → Region p (suc (suc k)) size L lines → size - p.centre * L ≡ tree_delay p (suc (suc k)) L
   delay_is k L lines r =
       let whole = 2 ^ (suc (suc k) - 1) in

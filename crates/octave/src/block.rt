@@ -11,7 +11,7 @@ use answers::unit::{BLOCK_LIMIT, LARGEST_GAIN, LEAST_SAMPLE, MOST_SAMPLE};
 use frames::count::{frames_in, whole_frames};
 
 // What a block answers: how many frames were written, or why it was refused; a sample by its place in the input.
-#[derive(Drop)]
+#[derive(Clone, Copy)]
 pub enum Blocked {
     Written(usize),
     Memory(Fault),

@@ -10,7 +10,7 @@ use answers::unit::{FEWEST_BANDS, FEWEST_CHANNELS, MOST_BANDS, MOST_CHANNELS};
 use whole::places::clear;
 
 // How many places a memory has.
-#[derive(Drop)]
+#[derive(Clone, Copy)]
 pub enum Length {
     Places(usize),
     BandCount,
@@ -18,7 +18,7 @@ pub enum Length {
 }
 
 // What preparing answers: the delay, or why it was refused.
-#[derive(Drop)]
+#[derive(Clone, Copy)]
 pub enum Prepared {
     Delay(usize),
     BandCount,
@@ -27,7 +27,7 @@ pub enum Prepared {
 }
 
 // What is wrong with a lent memory.
-#[derive(Drop)]
+#[derive(Clone, Copy)]
 pub enum Fault {
     CountWrong,
     LengthWrong,
@@ -35,7 +35,7 @@ pub enum Fault {
 }
 
 // What a lent memory is: that of so many bands and channels, or what is wrong with it.
-#[derive(Drop)]
+#[derive(Clone, Copy)]
 pub enum Kept {
     Holds(usize, usize),
     Wrong(Fault),

@@ -9,7 +9,7 @@ ghost use Rattle.std.specs.Prelude.{◌≡◌, nat_abs};
 use std::io;
 
 // What a call answered: a number, or the number of its refusal.
-#[derive(Drop)]
+#[derive(Clone, Copy)]
 pub enum Answer {
     Accepted(u64),
     Refused(u64),

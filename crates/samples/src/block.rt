@@ -16,7 +16,7 @@ use fields::lowest::{four, put_three};
 use floats::{is_sample, sample_of_code};
 
 // What `bytes_to_samples` answers.
-#[derive(Drop)]
+#[derive(Clone, Copy)]
 pub enum Taken {
     // The number of samples.
     Samples(usize),
@@ -29,7 +29,7 @@ pub enum Taken {
 }
 
 // What `samples_to_bytes` answers.
-#[derive(Drop)]
+#[derive(Clone, Copy)]
 pub enum Stored {
     // The number of bytes, three for each sample.
     Bytes(usize),

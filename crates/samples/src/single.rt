@@ -12,7 +12,7 @@ use fields::lowest::{four, put_three, three, two};
 use floats::{sample_of_code, sample_or_0};
 
 // What `sample_from_bytes` answers.
-#[derive(Drop)]
+#[derive(Clone, Copy)]
 pub enum Sample {
     Is(i32),
     // 18: not two or three bytes.
@@ -20,7 +20,7 @@ pub enum Sample {
 }
 
 // What `sample_to_bytes` answers.
-#[derive(Drop)]
+#[derive(Clone, Copy)]
 pub enum Put {
     // The number of bytes written, 3.
     Done(usize),

@@ -37,7 +37,7 @@ module _ (p : Prototype) where
   unfoldable pub exact_output : ℕ → (ℕ → ℕ → ℤ) → Signal → Signal
   exact_output M g x n = limit (pos (unity * common_scale M) *ℤ least_sample) (pos (unity * common_scale M) *ℤ most_sample) (exact_sum M g x n)
 
-  -- rule 4.6: E by level, E(M) = 0 and E(k-1) = A-as-E(k) + 50,000·100,000^(M-k), A the sum of the magnitudes
+  -- rule 4.6: E by level, E(M) = 0 and E(k-1) = A·E(k) + 50,000·100,000^(M-k), A the sum of the magnitudes
   unfoldable pub allowance_at : ℕ → ℕ
   allowance_at zero = 0
   allowance_at (suc j) = magnitudes p * allowance_at j + scale / 2 * scale ^ j

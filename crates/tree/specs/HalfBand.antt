@@ -1,4 +1,4 @@
--- What the low-pass goes by (rule 5.13): of a table that is served all of it holds (proofs/ServedTables).
+-- What the low-pass goes by (rule 5.13): of a table that is served all of it holds.
 use Rattle.std.specs.Prelude.{◌≡◌, ℕ, ◌+◌, ◌-◌, ◌*◌, ◌^◌, ◌≤◌, pos, nat_abs}
 use Rattle.tree.specs.Prototype.{Prototype, coefficient, taps}
 

@@ -15,7 +15,7 @@ use samples::{Channels, Format};
 use whole::counts::least;
 
 // What `find` answers.
-#[derive(Drop)]
+#[derive(Clone, Copy)]
 pub enum Finding {
     // `size` bytes of samples start at `start`.
     Data {

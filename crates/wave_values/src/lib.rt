@@ -13,14 +13,14 @@ pub const FMT_LENGTH: u32 = 16;
 pub const LONG_FMT_LENGTH: u32 = 18;
 
 // What a `fmt ` says of the samples.
-#[derive(Drop)]
+#[derive(Clone, Copy)]
 pub enum Coding {
     Known(Format),
     Unknown,
 }
 
 // What the channel count says.
-#[derive(Drop)]
+#[derive(Clone, Copy)]
 pub enum Sides {
     OneOrTwo(Channels),
     OtherCount,

@@ -19,7 +19,7 @@ use wave_values::{FMT_LENGTH, known_rate};
 const HEADER_BYTES: usize = 44;
 
 // What `write` answers.
-#[derive(Drop)]
+#[derive(Clone, Copy)]
 pub enum Written {
     // The number of bytes written, 44.
     Header(usize),

@@ -6,6 +6,7 @@ use Rattle.octave.specs.Memory.{held_in}
 use Rattle.octave.specs.Helpers.{KeptCounts}
 use Rattle.octave.proofs.Memories.{not_negative, Accepted, accepted_is, bands_few}
 use Rattle.octave.proofs.Blocking.{allowed_gains, asked_again, sides_are, from_inside, position_small, equalised_is}
+use Rattle.octave.proofs.Layouts.{line_small}
 use Rattle.octave.proofs.pass.pass.Goals as goal
 
 accepted : {m : List ℤ} {bands channels : ℕ} → KeptCounts bands channels m → Accepted m bands channels
@@ -49,9 +50,11 @@ run-at-requires c =
 pub overflow_cast-memory : goal.overflow_cast-memory
 overflow_cast-memory c =
     let fits : FitsSigned w32 (held_in c.args.memory.now).position = search rules in
-    record {
-      sfits = position_small (accepted c.requires.0.memory_kept) c.line_length-size.ensures (from_is fits) c.args.gains.now c.args.input.now c.run-at.ensures.first;
-    }
+    let kept = accepted c.requires.0.memory_kept in
+    let size_is = c.line_length-size.ensures in
+    let before = from_inside kept size_is (from_is fits) in
+    let after = position_small kept size_is (from_is fits) c.args.gains.now c.args.input.now c.run-at.ensures.first in
+    record { sfits = omega (arith, before, after, size_is, line_small c.args.bands (bands_few kept).1) }
 
 pub bounds-memory-2 : goal.bounds-memory-2
 bounds-memory-2 c =
