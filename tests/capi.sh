@@ -7,7 +7,7 @@ cd "$(dirname "${BASH_SOURCE[0]}")/.."
 source tests/x86.sh
 made=$(mktemp -d)
 trap 'rm -rf "$made"' EXIT
-# What capi stands on is taken as it was proved; rt checks capi itself once more, since it keeps no archive of a proved library.
+# The gate builds no archive: rt proves capi, and what of its libraries the gate left unbuilt, once more.
 (cd crates/capi && rt lib) > "$made/log" 2>&1 || { cat "$made/log"; exit 1; }
 archive=crates/capi/out/libcapi.a
 for example in minimal crossover; do
