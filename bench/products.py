@@ -1,14 +1,17 @@
-"""`products.py < crates/ring/out/rlib/ring.rlib/toolchain/mir.json`: the products of samples in a line as the compiler is handed them. They are the
-signed multiplications of the MIR that the kit keeps beside a built library, counted through the calls; those of an index are unsigned."""
+"""`products.py MIR..`: the products of samples in a line as the compiler is handed them. They are the signed multiplications of the MIR that the kit
+keeps beside a built library (crates/NAME/out/rlib/NAME.rlib/toolchain/mir.json), counted through the calls; those of an index are unsigned."""
 import json
 import re
 import sys
 
-bodies = {name: json.dumps(function["body"]) for name, function in json.load(sys.stdin)}
+bodies = {}
+for path in sys.argv[1:]:
+    with open(path, encoding="utf-8") as file:
+        bodies.update((name, json.dumps(function["body"])) for name, function in json.load(file))
 
 
 def products(name):
-    body = bodies.get(name, "")  # a function of another crate multiplies no two samples
+    body = bodies[name]
     return body.count('{"Mul": "Signed"}') + sum(products(called) for called in re.findall(r'"Fn": \["([^"]+)"', body))
 
 
