@@ -1,5 +1,6 @@
 -- What a call answers, in the numbers of the rule book.
-use Rattle.std.specs.Prelude.{ℕ}
+use Rattle.std.specs.Prelude.{ℕ, Result, Ok, Err}
+use Rattle.answers.specs.declared.refused.Refused.{Refused}
 
 -- rule 6.2: accepted with a value, or refused with a number and a place (0 where no place is asked)
 pub data Answer (A : Type 0) : Type 0 where
@@ -15,3 +16,12 @@ number_in (refused number place) = number
 abbrev pub place_in : {A : Type 0} → Answer A → ℕ
 place_in (accepted a) = 0
 place_in (refused number place) = place
+
+-- rule 6.2: a refusal that has no place
+abbrev pub plain : ℕ → Refused
+plain number = record { number = number; place = 0 }
+
+-- rule 6.2: what a call's result answers: its value, or the number and the place of its error
+abbrev pub answered : {A E : Type 0} → (E → Refused) → Result A E → Answer A
+answered refusal (Ok a) = accepted a
+answered refusal (Err e) = refused (refusal e).number (refusal e).place

@@ -3,4 +3,5 @@
 #![tactic(auto)]
 
 pub mod range;
+pub mod refused;
 pub mod unit;
