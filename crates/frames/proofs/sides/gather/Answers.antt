@@ -1,19 +1,24 @@
-use Rattle.std.proofs.Common.{◌≡◌, ℕ, sym, ap, ◌∙◌, arith, rules}
+use Rattle.std.proofs.Common.{◌≡◌, ℕ, length, drop, sym, ap, ◌∙◌, arith, rules}
+use Rattle.std.proofs.lemmas.List.{take-append-le}
+use lib.Seq.{take_at, length-take-le}
 use Rattle.frames.specs.Frames.{side}
-use Rattle.frames.proofs.Laws.{side_copied}
+use Rattle.frames.proofs.Laws.{side_alone}
 use Rattle.frames.proofs.Loops.{gathering_on, gathering_ends}
 use Rattle.frames.proofs.sides.gather.Goals as goal
 
 pub returns-then-channels-eq1 : goal.returns-then-channels-eq1
 returns-then-channels-eq1 c =
     let a = c.args in
-    side_copied a.channels a.s a.n a.block.now c.copy.new.row c.if-channels-eq1.true c.requires.0 c.requires.1 c.copy.ensures
+    let copied = c.copy_from_slice in
+    let long : length copied.new.self ≡ a.n = copied.ensures.len ∙ length-take-le a.n a.row.now c.requires.2 in
+    take_at copied.new.self (drop a.n a.row.now) a.n long ∙ copied.ensures.after ∙ sym (side_alone a.channels a.s a.n a.block.now c.if-channels-eq1.true c.requires.0 c.requires.1)
 
 pub loop-i-preserved : goal.loop-i-preserved
 loop-i-preserved c =
     let a = c.args in
     let l = c.loop-i in
-    let on = gathering_on 2 a.s a.n a.block.now a.row.now l.row l.i l.invariant c.loop-i-test.true c.requires.2 in
+    let long : length l.front ≡ a.n = l.auto.front ∙ length-take-le a.n a.row.now c.requires.2 in
+    let on = gathering_on 2 a.s a.n a.block.now _ l.front l.i l.invariant (omega arith) (omega arith) in
     search rules
 
 pub returns : goal.returns
@@ -21,4 +26,5 @@ returns c =
     let a = c.args in
     let l = c.loop-i in
     let two : a.channels ≡ 2 = omega arith in
-    gathering_ends 2 a.s a.n a.block.now a.row.now l.row l.i l.invariant c.loop-i-test.false ∙ ap (λ (k : ℕ). side k a.s a.n a.block.now) (sym two)
+    let long : length l.front ≡ a.n = l.auto.front ∙ length-take-le a.n a.row.now c.requires.2 in
+    take-append-le a.n l.front (drop a.n a.row.now) (omega arith) ∙ gathering_ends 2 a.s a.n a.block.now _ l.front l.i l.invariant (omega arith) ∙ ap (λ (k : ℕ). side k a.s a.n a.block.now) (sym two)
