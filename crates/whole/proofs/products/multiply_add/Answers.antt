@@ -9,4 +9,4 @@ returns c =
     let a = c.args in
     let same : c.from.result ≡ a.x = c.from.ensures ∙ to_z-of_z c.ranges.x in
     let small : nat_abs c.from.result ≤ 2 ^ 31 = rw same (nat_abs-le a.x c.ranges.x.sfits) in
-    added c.from.result (2 ^ 30) (2 ^ 31) c.ranges.sum c.ranges.c c.requires.0 c.requires.1 small (omega arith) (omega arith) ∙ ap (λ (z : ℤ). a.sum +ℤ a.c *ℤ z) same
+    (added c.from.result (2 ^ 30) (2 ^ 31) c.ranges.sum c.ranges.c c.requires.0 c.requires.1 small (omega arith) (omega arith)).answer ∙ ap (λ (z : ℤ). a.sum +ℤ a.c *ℤ z) same
