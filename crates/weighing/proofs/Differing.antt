@@ -14,7 +14,7 @@ use Rattle.whole.proofs.Signed.{about}
 use Rattle.whole.proofs.Magnitude.{abs--ℤ}
 use Rattle.whole.proofs.Rounded.{raw}
 use Rattle.tree.specs.Signal.{gain_of}
-use Rattle.weighing.specs.Helpers.{Allowed, Differ, Small, Above}
+use Rattle.weighing.specs.Helpers.{Allowed, Differ, Small, Above, Below}
 
 -- ---- one difference
 
@@ -59,6 +59,10 @@ module _ (gains ds : List ℤ) (allowed : Allowed 10 gains) {i : ℕ} (found : F
 
   pub above : Above (length gains) ds
   above = record { none = λ k h. each k ∙ without k h }
+
+-- every line may count
+pub below_starts : (top : ℕ) (ds : List ℤ) → Below 0 top ds
+below_starts top ds = record { few = omega arith; none = λ i h. absurd (omega arith) }
 
 -- a band above the last has no gain
 pub none_above : (gains : List ℤ) {bands : ℕ} → length gains ≤ bands → gain_of gains (suc bands) ≡ pos 0

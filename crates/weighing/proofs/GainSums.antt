@@ -181,10 +181,6 @@ outputs_at g [] i h = absurd (omega arith)
 outputs_at g (a ∷ cols) zero h = refl
 outputs_at g (a ∷ cols) (suc i) h = outputs_at g cols i (omega arith)
 
--- what the rounding asks
-pub done_room : {bands i : ℕ} {matrix ds : List ℤ} {s : ℤ} → bands ≤ 10 → SumDone bands i matrix ds s → nat_abs (raw w64 s) ≤ 2 ^ 62
-done_room {s = s} few d = rw (to_z-of_z {w = w64} {z = s} (record { sfits = omega (arith, about s, d.bounded) })) (omega (arith, d.bounded))
-
 -- the output that a sum comes to, in 32 bits
 pub out_back : {bands i : ℕ} {matrix ds : List ℤ} {s n r : ℤ} → bands ≤ 10 → SumDone bands i matrix ds s → n ≡ nearest unity (raw w64 s) → r ≡ limit least_sample most_sample (raw w64 n) →
     raw w32 r ≡ out_of (gain_sum bands bands i matrix ds)

@@ -39,10 +39,8 @@ pub fn weigh_rows(
     ensures { SideWeighed side.channels side.s n bands rows.now weights.now.differences output.old output.new }
 {
     for i in 0..n {
-        let sum = sum_at(weights, rows, bands, i);
-        output[side.channels * i + side.s] = limit::<LEAST_SAMPLE, MOST_SAMPLE>(nearest::<UNITY>(
-            sum,
-        ));
+        let rounded = nearest::<UNITY>(sum_at(weights, rows, bands, i));
+        output[side.channels * i + side.s] = limit::<LEAST_SAMPLE, MOST_SAMPLE>(rounded);
     }
 }
 

@@ -1,6 +1,5 @@
 use Rattle.std.proofs.Common.{refl, ap₂, ◌∙◌, ◌-ℤ◌}
-use Rattle.weighing.proofs.Differing.{lessened, found_on, differ, small, above}
-use Rattle.weighing.proofs.Counting.{below_starts}
+use Rattle.weighing.proofs.Differing.{lessened, found_on, differ, small, above, below_starts}
 use Rattle.weighing.proofs.weights.Weights.of.Goals as goal
 
 pub loop-i-preserved : goal.loop-i-preserved
