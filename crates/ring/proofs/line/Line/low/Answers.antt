@@ -24,4 +24,4 @@ returns g c =
     (read 16 c.tap-9.result (lit≤ tt) c.tap-9.ensures c.tap-9.type_inv)
     (read 18 c.tap-10.result (lit≤ tt) c.tap-10.ensures c.tap-10.type_inv)
     c.weigh-sum.ensures in
-    low_value_is line a.size a.at a.l x c.weigh-sum.result c.nearest.result c.limit.result sum c.weigh-sum.ensures.size c.nearest.ensures c.limit.ensures
+    low_value_is line a.size a.at a.l x (record { sfits = c.nearest.type_inv }) (record { sfits = c.limit.type_inv }) sum c.weigh-sum.ensures.size c.nearest.ensures c.limit.ensures
