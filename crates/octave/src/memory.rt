@@ -83,12 +83,8 @@ pub fn judge(memory: &[i32]) -> Result<Counts, Fault>
     if memory.len() != counts.memory_length() {
         return Err(Fault::LengthWrong);
     }
-    let at = memory[POSITION];
-    if at < 0 {
-        return Err(Fault::PositionOutside);
+    match usize::try_from(memory[POSITION]) {
+        Ok(at) if at < counts.line_length() => Ok(counts),
+        _ => Err(Fault::PositionOutside),
     }
-    if counts.line_length() <= at as usize {
-        return Err(Fault::PositionOutside);
-    }
-    Ok(counts)
 }
