@@ -2,6 +2,9 @@
 #![tactic(auto)]
 
 pub mod block;
+pub mod counts;
+pub mod input;
 mod layout;
 pub mod memory;
+mod numbers;
 pub mod pass;
