@@ -1,15 +1,16 @@
--- A number of up to four bytes read and written in a row of four, and a part of a buffer written anew. Assumes nothing.
+-- A number of up to four bytes, read and written in a row of four; a part of a buffer written anew. Assumes nothing.
 use mathlib.Core.Path.{◌≡◌, refl, sym, ap, ◌∙◌}
 use mathlib.Core.List.{List, [], ◌∷◌, ◌++◌, append_assoc}
 use Prim.Native.Nat.{ℕ, zero, suc, ◌+◌, ◌-◌, ◌*◌, ◌/◌, ◌%◌, ◌^◌, ◌<◌, ◌≤◌}
-use native.Mathlib.Nat.{suc-add}
+use native.Mathlib.Nat.{suc-add, zero-add}
+use native.Mathlib.Numerals.{add-one}
 use native.Mathlib.Omega.{arith}
-use lib.ListN.{length, get_or, take, drop, length-append, length-take, length-drop}
-use lib.Seq.{drop-nil, sets, sets-eq, take_at, drop_at, drop-drop, length-take-le}
+use lib.ListN.{length, get_or, take, drop, set, length-append, length-take, length-drop}
+use lib.Seq.{drop-nil, drop-drop, sets, sets-eq, take_at, drop_at, take-suc, get_or-drop, length-take-le}
 use borrow.Rule.Slice.PartMut.{put_mid}
 use Rattle.fields.specs.Bytes.{Bytes, Order, number, little, ordered, number_in, field, row}
 use Rattle.fields.proofs.Numbers.{bytes_take, bytes_drop, number_append}
-use Rattle.fields.proofs.Rows.{length-ordered, length-row, number_in-below}
+use Rattle.fields.proofs.Rows.{length-ordered, length-row, number_in-below, behind}
 
 -- a part of a buffer is written anew
 pub part_put : (l vs : List ℕ) (at k : ℕ) → length vs ≡ k → at + k ≤ length l → put_mid at (at + k - at) l vs ≡ sets l at vs
@@ -21,7 +22,18 @@ part_put l vs at k long room =
 
 -- ---- read
 
-abbrev zeros : List ℕ
+-- one byte more of a row is read
+pub one_more : (l to from : List ℕ) (place i : ℕ) → place + i < length from → to ≡ sets l 0 (take i (drop place from)) →
+    set to i (get_or from (place + i) 0) ≡ sets l 0 (take (i + 1) (drop place from))
+one_more l to from place i room e =
+    let rest = drop place from in
+    let more : i < length rest = omega (arith, length-drop place from) in
+    let b = get_or from (place + i) 0 in
+    behind l to (set to i b) (take i rest) (b ∷ []) 0 i (length-take-le i rest (omega arith)) e (ap (λ (k : ℕ). set to k b) (sym (zero-add i)))
+    ∙ ap (λ (x : ℕ). sets l 0 (take i rest ++ x ∷ [])) (sym (get_or-drop place from i 0))
+    ∙ ap (sets l 0) (sym (take-suc rest i 0 more) ∙ ap (λ (n : ℕ). take n rest) (sym (add-one i)))
+
+abbrev pub zeros : List ℕ
 zeros = 0 ∷ 0 ∷ 0 ∷ 0 ∷ []
 
 no_more : (n : ℕ) → number (drop n zeros) ≡ 0
@@ -41,44 +53,46 @@ four_bytes (a ∷ b ∷ x ∷ []) h = omega arith
 four_bytes (a ∷ b ∷ x ∷ y ∷ []) h = omega arith
 four_bytes (a ∷ b ∷ x ∷ y ∷ z ∷ s) h = absurd (omega arith)
 
--- bytes turned to lowest first in a row of four zeros
+-- bytes copied over zeros and turned to lowest first
 module _ (order : Order) (n place : ℕ) (s read turned : List ℕ) (few : n ≤ 4) (room : place + n ≤ length s)
-    (is_read : read ≡ take (place + n - place) (drop place s)) (is_turned : turned ≡ ordered order (take n (read ++ drop n zeros))) where
-  same_bytes : read ≡ take n (drop place s)
-  same_bytes = let size : place + n - place ≡ n = omega arith in is_read ∙ ap (λ (k : ℕ). take k (drop place s)) size
+    (is_read : read ≡ sets zeros 0 (take n (drop place s))) (is_turned : turned ≡ ordered order (take n read)) where
+  long : length (take n (drop place s)) ≡ n
+  long = length-take-le n (drop place s) (omega (arith, length-drop place s))
 
-  long : length read ≡ n
-  long = ap length same_bytes ∙ length-take-le n (drop place s) (omega (arith, length-drop place s))
+  over_zeros : read ≡ take n (drop place s) ++ drop n zeros
+  over_zeros = is_read ∙ sets-eq (take n (drop place s)) zeros 0 (omega (arith, long)) ∙ ap (λ (k : ℕ). take n (drop place s) ++ drop k zeros) (omega (arith, long))
 
-  in_order : turned ≡ ordered order read
-  in_order = is_turned ∙ ap (ordered order) (take_at read (drop n zeros) n long)
+  in_order : turned ≡ ordered order (take n (drop place s))
+  in_order = is_turned ∙ ap (λ (r : List ℕ). ordered order (take n r)) over_zeros ∙ ap (ordered order) (take_at (take n (drop place s)) (drop n zeros) n long)
 
-  whole : number (turned ++ drop n (read ++ drop n zeros)) ≡ number turned
+  behind_are : drop n read ≡ drop n zeros
+  behind_are = ap (drop n) over_zeros ∙ drop_at (take n (drop place s)) (drop n zeros) n long
+
+  whole : number (turned ++ drop n read) ≡ number turned
   whole =
-      ap (λ (r : List ℕ). number (turned ++ r)) (drop_at read (drop n zeros) n long)
+      ap (λ (r : List ℕ). number (turned ++ r)) behind_are
       ∙ number_append turned (drop n zeros) ∙ omega (arith, ap (λ (k : ℕ). 256 ^ length turned * k) (no_more n))
 
   is_field : number turned ≡ field order s place n
   unfolding field number_in
-  is_field = ap number in_order ∙ ap (λ (r : List ℕ). number (ordered order r)) same_bytes
+  is_field = ap number in_order
 
-  as_long : length (turned ++ drop n (read ++ drop n zeros)) ≤ 4
+  as_long : length (turned ++ drop n read) ≤ 4
   as_long =
       omega (
         arith,
-        length-append turned (drop n (read ++ drop n zeros)),
-        length-drop n (read ++ drop n zeros),
-        length-append read (drop n zeros),
+        length-append turned (drop n read),
+        ap length behind_are,
         length-drop n zeros,
         ap length in_order,
-        length-ordered order read,
+        length-ordered order (take n (drop place s)),
         long,
       )
 
   pub number_read : (r : ℕ) →
-      r ≡ (let t = turned ++ drop n (read ++ drop n zeros) in get_or t 0 0 + get_or t 1 0 * 256 + get_or t 2 0 * 65536 + get_or t 3 0 * 16777216) →
+      r ≡ (let t = turned ++ drop n read in get_or t 0 0 + get_or t 1 0 * 256 + get_or t 2 0 * 65536 + get_or t 3 0 * 16777216) →
       r ≡ field order s place n
-  number_read r e = e ∙ sym (four_bytes (turned ++ drop n (read ++ drop n zeros)) as_long) ∙ whole ∙ is_field
+  number_read r e = e ∙ sym (four_bytes (turned ++ drop n read) as_long) ∙ whole ∙ is_field
 
 -- .. which is below that many powers
 pub field_below : (order : Order) (s : List ℕ) (place n : ℕ) → Bytes s → field order s place n < 256 ^ n
