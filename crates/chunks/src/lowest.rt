@@ -34,7 +34,7 @@ pub fn next_after(front: &[u8], at: usize) -> usize
 
 // Writes a chunk's header.
 pub fn put_chunk(buffer: &mut [u8], at: usize, name: &[u8; 4], size: u32)
-    requires { (at + header_length ≤ length buffer.old) × (length name.now ≡ 4) }
+    requires { at + header_length ≤ length buffer.old }
     ensures { buffer.new ≡ sets buffer.old at (chunk_header lowest name.now size) }
 {
     put_name(buffer, at, name);
