@@ -29,7 +29,7 @@ pub fn next_after(front: &[u8], at: usize) -> usize
     requires { at + header_length ≤ length front.now }
     ensures { result ≡ next at (size_in lowest (drop at front.now)) }
 {
-    next_chunk(at, number_at::<Lowest, 4>(front, at + 4))
+    next_chunk(at, size_in(&front[at..]))
 }
 
 // Writes a chunk's header.
