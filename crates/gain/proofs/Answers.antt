@@ -13,7 +13,8 @@ use Rattle.gain.specs.declared.Command.TheVariants.{Decibels, Factor, Off}
 use Rattle.gain.specs.declared.GainError.{GainError}
 use Rattle.gain.specs.declared.GainError.TheVariants.{NotHalfDecibels, NotFactor}
 use Rattle.gain.proofs.Factors.{at_most_four}
-use Rattle.gain.proofs.Halves.{both_true, signed_size}
+use Rattle.std.proofs.lemmas.Bool.{and_parts}
+use Rattle.gain.proofs.Halves.{signed_size}
 use Rattle.gain.proofs.Table.{entry_small}
 
 -- ---- the range
@@ -29,7 +30,7 @@ within_small g h = (record { le = le→leb 0 g (omega arith) }, record { le = le
 
 within_halves : (s : Bool) (t d : ℕ) (b : Bool) → (eqb (t % d) 0 && leb (t / d) 24) ≡ b → Within (cond b (Ok (pos (entry (signed s (t / d))))) (Err NotHalfDecibels))
 within_halves s t d true e =
-    let l = leb-true (t / d) 24 (both_true (eqb (t % d) 0) (leb (t / d) 24) e).1 in
+    let l = leb-true (t / d) 24 (and_parts (eqb (t % d) 0) (leb (t / d) 24) e).1 in
     within_small (entry (signed s (t / d))) (entry_small (signed s (t / d)) (rw (signed_size s (t / d)) l))
 within_halves s t d false e = tt
 

@@ -3,7 +3,7 @@
 use Rattle.std.proofs.Common.{◌≡◌, ℕ, zero, suc, ◌+◌, ◌-◌, ◌*◌, ◌/◌, ◌%◌, ◌^◌, ◌<◌, ◌≤◌, Bool, true, false, T, ltb, leb, eqb, pos, sym, refl, ap, ◌∙◌, subst, lt_of_le_of_lt, mod-lt, mul_comm, lt_of_mul-lt-mul_right, mul-lt-mul_of_pos_right, div-add-mod', arith, lit<, eqb-true, leb-true, Ok, Err}
 use native.Mathlib.Nat.{add-div_right, div-div-eq-div-mul, div-le_of_le-mul}
 use lib.Ieee.{Float, nan, inf, fin, binary32, up, down, level, lt, eq, mul, fits}
-use mathlib.Core.Bool.{cond, ◌&&◌, ◌||◌}
+use mathlib.Core.Bool.{cond, ◌&&◌, ◌||◌, true≢false}
 use Rattle.std.specs.Prelude.{Some, None}
 use Rattle.std.proofs.Common.{Less, Equal, Greater}
 use Rattle.std.specs.Ordering.{is_le, is_some_and, partial_lt, partial_le, float_partial_cmp}
@@ -12,7 +12,6 @@ use lib.Ieee.Fits.{down_pos}
 use Rattle.answers.specs.Unit.{unity}
 use Rattle.gain.specs.Factor.{nearest_up, up_to_four, times_gain, factor_gain}
 use Rattle.gain.specs.declared.GainError.TheVariants.{NotFactor}
-use Rattle.gain.proofs.Halves.{true_is_not_false}
 use Rattle.gain.proofs.Product.{exact, Cut, cut}
 
 -- ---- the rounding
@@ -93,8 +92,8 @@ module _ (x a b : Float) (past t : Bool) (is_a : a ≡ fin false 0 (pos 0)) (is_
   not_refused e = by x (sym tells ∙ e)
     where
       by : (y : Float) → allowed y ≡ true → Accepted y
-      by nan h = absurd (true_is_not_false (sym h))
-      by (inf s) h = absurd (true_is_not_false (sym h))
+      by nan h = absurd (true≢false (sym h))
+      by (inf s) h = absurd (true≢false (sym h))
       by (fin s m e) h = h
 
   pub refused : t ≡ false → factor_gain x ≡ Err NotFactor
@@ -118,7 +117,7 @@ at_most_four false v d e = leb-true v (4 * d) e
 
 zero_if_negative : (s : Bool) (v d : ℕ) → up_to_four s v d ≡ true → s ≡ true → v ≡ 0
 zero_if_negative true v d e h = eqb-true v 0 e
-zero_if_negative false v d e h = absurd (true_is_not_false (sym h))
+zero_if_negative false v d e h = absurd (true≢false (sym h))
 
 pub few_steps : (x : Float) → Accepted x → half_steps x ≤ 32768
 unfolding half_steps

@@ -5,7 +5,8 @@ use Rattle.gain.specs.Decibels.{Half, decibels_gain, half_decibel}
 use Rattle.gain.specs.declared.GainError.TheVariants.{NotHalfDecibels}
 use Rattle.gain.proofs.Every.{place-below, place-back, place_range}
 use Rattle.gain.proofs.HalfDecibels.{half_at}
-use Rattle.gain.proofs.Halves.{true_is_not_false, half_of_equal, equal_halves, accepted_half, refused_half}
+use mathlib.Core.Bool.{true≢false}
+use Rattle.gain.proofs.Halves.{half_of_equal, equal_halves, accepted_half, refused_half}
 use Rattle.gain.proofs.decibels.decibels.Goals as goal
 
 -- ---- what the search finds, and what it rules out
@@ -18,7 +19,7 @@ module _ (x : Float) where
 
   passed : (i : ℕ) → i < 49 → eq x (half_decibel i) ≡ false → Half x (pos i -ℤ pos 24) → ⊥
   passed i l e mine =
-      true_is_not_false (sym (equal_halves x (half_decibel i) (pos i -ℤ pos 24) mine (half_at (half_decibel i) i refl l)) ∙ e)
+      true≢false (sym (equal_halves x (half_decibel i) (pos i -ℤ pos 24) mine (half_at (half_decibel i) i refl l)) ∙ e)
 
   none : ((k : ℕ) → k < 49 → eq x (half_decibel k) ≡ false) → decibels_gain x ≡ Err NotHalfDecibels
   none others =
