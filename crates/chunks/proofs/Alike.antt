@@ -1,18 +1,13 @@
 -- Rows that agree up to a place: what is read before it is the same of both. Assumes nothing.
 use mathlib.Core.Path.{◌≡◌, sym, ap, ◌∙◌}
-use mathlib.Core.List.{List, [], ◌∷◌}
-use Prim.Native.Nat.{ℕ, zero, suc, ◌+◌, ◌≤◌}
-use native.Mathlib.Nat.{zero-add, suc-add}
+use mathlib.Core.List.{List}
+use Prim.Native.Nat.{ℕ, ◌+◌, ◌≤◌}
 use native.Mathlib.Omega.{arith}
 use lib.ListN.{length, take, drop, length-take, length-drop}
-use lib.Seq.{take-take, take-nil}
+use lib.Seq.{take-take}
+use Rattle.std.proofs.lemmas.List.{drop-take}
 use Rattle.fields.specs.Bytes.{Order, number_in, field, same}
 use Rattle.chunks.specs.Walk.{named}
-
-drop-take : (place k : ℕ) (s : List ℕ) → drop place (take (place + k) s) ≡ take k (drop place s)
-drop-take zero k s = ap (λ (n : ℕ). take n s) (zero-add k)
-drop-take (suc place) k [] = rw suc-add (sym (take-nil k))
-drop-take (suc place) k (x ∷ s) = rw suc-add (drop-take place k s)
 
 -- the first m bytes are the same, and both have so many
 pub record Alike (m : ℕ) (r q : List ℕ) : Type 0 where

@@ -1,28 +1,18 @@
 -- A chunk's header: whether it is in the front, the length that it states, and its bytes in a row. Assumes nothing.
-use mathlib.Core.Path.{◌≡◌, sym, ap, ◌∙◌}
+use mathlib.Core.Path.{◌≡◌, sym, ◌∙◌}
 use mathlib.Core.Bool.{Bool, true, false}
 use mathlib.Core.List.{List}
-use Prim.Native.Nat.{ℕ, ◌+◌, ◌-◌, ◌<◌, ◌≤◌}
+use Prim.Native.Nat.{ℕ, ◌+◌, ◌<◌, ◌≤◌}
 use native.Mathlib.Omega.{arith}
-use lib.ListN.{length, take, drop, length-append}
-use lib.Seq.{sets, drop-drop}
+use lib.ListN.{length, length-append}
+use lib.Seq.{sets}
 use lib.Dec.{leb}
-use borrow.Author.Tests.{leb-true, leb-false, le-leb, lt-leb}
-use Rattle.fields.specs.Bytes.{Order, number_in, field, row}
-use Rattle.fields.proofs.ByTest.{by-test}
+use borrow.Author.Tests.{leb-true, leb-false}
+use Rattle.fields.specs.Bytes.{Order, row}
 use Rattle.fields.proofs.Rows.{length-row, behind}
-use Rattle.chunks.specs.Walk.{header_length, chunk_header, size_in, next}
+use Rattle.chunks.specs.Walk.{header_length, chunk_header}
 
 -- ---- in the front
-
-pub no_header : (n at : ℕ) → n < at → false ≡ leb (at + header_length) n
-no_header n at l = sym (lt-leb (at + header_length) n (omega arith))
-
-pub header_room : (n at : ℕ) → at ≤ n → leb header_length (n - at) ≡ leb (at + header_length) n
-header_room n at l =
-    by-test (leb header_length (n - at))
-    (λ t. t ∙ sym (le-leb (at + header_length) n (omega (arith, leb-true header_length (n - at) t))))
-    (λ t. t ∙ sym (lt-leb (at + header_length) n (omega (arith, leb-false header_length (n - at) t))))
 
 -- what a reader's loop is told by the test
 module _ (n at : ℕ) (r : Bool) (is : r ≡ leb (at + header_length) n) where
@@ -31,16 +21,6 @@ module _ (n at : ℕ) (r : Bool) (is : r ≡ leb (at + header_length) n) where
 
   pub header_gone : r ≡ false → n < at + header_length
   header_gone t = leb-false (at + header_length) n (sym is ∙ t)
-
--- ---- the length, read at its place in the front
-
-pub size_there : (order : Order) (front : List ℕ) (at : ℕ) → size_in order (drop at front) ≡ field order front (at + 4) 4
-unfolding field
-size_there order front at = ap (λ (s : List ℕ). number_in order (take 4 s)) (drop-drop 4 at front)
-
-pub next_there : (order : Order) (front : List ℕ) (at place size : ℕ) → place ≡ next at size → size ≡ field order front (at + 4) 4 →
-    place ≡ next at (size_in order (drop at front))
-next_there order front at place size e s = e ∙ ap (next at) (s ∙ sym (size_there order front at))
 
 -- ---- the bytes
 

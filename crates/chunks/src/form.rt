@@ -1,5 +1,5 @@
 // The first twelve bytes of a file of chunks: a name, a length, and the name of the form.
-ghost use Rattle.std.specs.Prelude.{◌≡◌, length};
+ghost use Rattle.std.specs.Prelude.{◌≡◌};
 ghost use Rattle.chunks.specs.Walk.{is_form};
 
 use fields::names::named;
@@ -9,14 +9,7 @@ pub const FORM_LENGTH: usize = 12;
 
 // Whether a front starts with a name and a form.
 pub fn is_form(front: &[u8], name: &[u8; 4], form: &[u8; 4]) -> bool
-    requires { (length name.now ≡ 4) × (length form.now ≡ 4) }
     ensures { result ≡ is_form front.now name.now form.now }
 {
-    if front.len() < FORM_LENGTH {
-        return false;
-    }
-    if !named(front, 0, name) {
-        return false;
-    }
-    named(front, 8, form)
+    FORM_LENGTH <= front.len() && named(front, 0, name) && named(front, 8, form)
 }

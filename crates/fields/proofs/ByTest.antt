@@ -1,5 +1,5 @@
 -- A proof by the two answers of a test. Assumes nothing.
-use mathlib.Core.Path.{◌≡◌, refl, sym, ◌∙◌}
+use mathlib.Core.Path.{◌≡◌, refl, sym}
 use mathlib.Core.Bool.{Bool, true, false, cond, ◌&&◌}
 use Prim.Native.Nat.{ℕ, ◌/◌, ◌%◌, ◌<◌, ◌≤◌}
 use lib.Dec.{eqb, ltb}
@@ -37,15 +37,7 @@ module _ (A : Type 0) (r x y : A) where
   pub picks_second : (t : Bool) → t ≡ false → r ≡ y → r ≡ cond t x y
   picks_second t e d = rw e d
 
--- tests of numbers that a call answered
-module _ (a b k : ℕ) (e : k ≡ a) where
-  pub answered_is : k ≡ b → eqb a b ≡ true
-  answered_is d = eq-eqb a b (sym e ∙ d)
-
-  pub answered_not : (k ≡ b → ⊥) → eqb a b ≡ false
-  answered_not n = ne_eqb a b (λ d. n (e ∙ d))
-
--- .. and of a division by one
+-- tests of a division by a number that a call answered
 module _ (m n size k : ℕ) (e : k ≡ size) where
   pub part : (n % k ≡ 0 → ⊥) → eqb (n % size) 0 ≡ false
   part h = rw (sym e) (ne_eqb (n % k) 0 h)
