@@ -18,7 +18,8 @@ use Rattle.wave.specs.declared.reader.Reading.TheVariants.{Accepted}
 use Rattle.arguments.specs.declared.taking.Arguments.{Arguments}
 use Rattle.arguments.specs.declared.taking.Arguments.TheVariants as arguments
 use Rattle.arguments.specs.Arguments.{bands}
-use Rattle.eqfile.specs.Start.{Plan, plan_for, plan_of, start_of}
+use Rattle.eqfile.specs.declared.plan.Plan.{Plan}
+use Rattle.eqfile.specs.Start.{plan_for, plan_of, start_of}
 
 pub reader_refuses : (k : ℕ) → refused k 0 ≡ plan_of (refused k 0)
 unfolding plan_of

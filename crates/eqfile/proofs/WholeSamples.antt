@@ -1,6 +1,5 @@
 -- The samples that are wholly there, and zeros after them. Assumes nothing.
-use mathlib.Core.Path.{◌≡◌, refl, sym, ap, ap₂, subst, ◌∙◌}
-use mathlib.Core.Logic.{inl, inr}
+use mathlib.Core.Path.{◌≡◌, refl, sym, ap, ap₂, ◌∙◌}
 use mathlib.Core.Bool.{Bool, true, false, cond}
 use mathlib.Core.List.{List, [], ◌∷◌, ◌++◌, append-nil}
 use Prim.Native.Nat.{ℕ, zero, suc, ◌+◌, ◌-◌, ◌*◌, ◌/◌, ◌%◌, ◌≤◌, ◌<◌, min}
@@ -10,9 +9,8 @@ use borrow.Author.Tests.{eq-eqb}
 use lib.ListN.{length, take, drop, replicate, length-take, length-drop, length-append, drop_of_length-le, take-append-drop}
 use lib.Seq.{take-nil, take_at, drop_at, take-take, length-take-le}
 use lib.IntN.{ℤ, pos}
+use Rattle.std.specs.Prelude.{Result, Ok, Err, is_ok}
 use borrow.Rule.Slice.PartMut.{put_mid}
-use types.Run.{OneOf}
-use denote.Enum.Declared.{tag_of}
 use Rattle.answers.specs.Checks.{check, Outcome, Done, decide}
 use Rattle.answers.specs.First.{first_failing}
 use Rattle.samples.specs.Samples.{samples_of, pieces_of, first_bad, all_samples, block_from}
@@ -21,7 +19,8 @@ use Rattle.samples.specs.Sample.{is_sample_in, sample_in}
 use Rattle.samples.specs.declared.format.Format.{Format}
 use Rattle.samples.specs.declared.block.Taken.{Taken}
 use Rattle.samples.specs.declared.block.Taken.TheVariants.{Samples, NotNumber}
-use Rattle.samples.specs.contracts.block.Taken as declared
+use Rattle.eqfile.specs.declared.refusal.Refusal.{Refusal}
+use Rattle.eqfile.specs.declared.refusal.Refusal.TheVariants as refusal
 use Rattle.samples.proofs.Taking.{length-samples}
 use Rattle.eqfile.specs.Data.{there_of, samples_from, numbers_from, taken_from}
 use Rattle.eqfile.proofs.Turns.{few_bytes}
@@ -54,11 +53,6 @@ pieces_in_front (suc n) size s =
 -- an answer of samples is no other
 clash : {n i : ℕ} → Samples n ≡ NotNumber i → ⊥
 clash e = let z : ◌≡◌ {A = ℕ} 0 1 = cc in omega arith
-
-not_tagged : (n : ℕ) → OneOf (1 ∷ 2 ∷ 3 ∷ []) (tag_of declared.the_type (Samples n)) → ⊥
-not_tagged n (inl t) = omega arith
-not_tagged n (inr (inl t)) = omega arith
-not_tagged n (inr (inr t)) = omega arith
 
 module _ (format : Format) (s : List ℕ) (samples : List ℤ) (size k : ℕ) (is : size ≡ size_of format) (here : k ≡ min (length s / size) (length samples)) where
   some : 0 < size
@@ -141,12 +135,12 @@ module _ (format : Format) (s : List ℕ) (samples : List ℤ) (size k : ℕ) (i
         by true g p q = absurd (other k p)
 
   -- a part put back as it was
-  pub not_taken : (last : List ℤ) → good ≡ false → last ≡ take k samples → Done (taken_from s format samples) false (last ++ drop k samples)
+  pub not_taken : (last : List ℤ) → good ≡ false → last ≡ take k samples → Done (taken_from s format samples) (Err refusal.NotNumber) (last ++ drop k samples)
   unfolding taken_from decide
   not_taken last g e =
       rw (sym numbers_are ∙ g) (record { result_is = refl; lent_is = ap (λ (l : List ℤ). l ++ drop k samples) e ∙ take-append-drop k samples })
 
-  pub all_taken : (after : List ℤ) → good ≡ true → after ≡ samples_from (length samples) format s → Done (taken_from s format samples) true after
+  pub all_taken : (after : List ℤ) → good ≡ true → after ≡ samples_from (length samples) format s → Done (taken_from s format samples) (Ok tt) after
   unfolding taken_from decide
   all_taken after g e = rw (sym numbers_are ∙ g) (record { result_is = refl; lent_is = e })
 
@@ -169,17 +163,17 @@ module _ (format : Format) (s : List ℕ) (samples : List ℤ) (size k : ℕ) (i
 
 -- ---- what a caller learns
 
-module _ (s : List ℕ) (format : Format) (samples : List ℤ) (r : Bool) (after : List ℤ) (d : Done (taken_from s format samples) r after) where
+module _ (s : List ℕ) (format : Format) (samples : List ℤ) (r : Result (Unit {0}) Refusal) (after : List ℤ) (d : Done (taken_from s format samples) r after) where
   -- the answer is whether they are all numbers
-  pub taken_answer_lem : r ≡ numbers_from (length samples) format s
+  pub taken_answer_lem : is_ok r ≡ numbers_from (length samples) format s
   unfolding taken_from decide
-  taken_answer_lem = d.result_is ∙ by (numbers_from (length samples) format s)
+  taken_answer_lem = ap is_ok d.result_is ∙ by (numbers_from (length samples) format s)
     where
-      by : (b : Bool) → (decide (check b false ∷ []) samples true (samples_from (length samples) format s)).result ≡ b
+      by : (b : Bool) → is_ok (decide {R = Result (Unit {0}) Refusal} (check b (Err refusal.NotNumber) ∷ []) samples (Ok (tt {0})) (samples_from (length samples) format s)).result ≡ b
       by true = refl
       by false = refl
 
   -- .. and if they are, they were taken
-  pub taken-samples : r ≡ true → after ≡ samples_from (length samples) format s
+  pub taken-samples : is_ok r ≡ true → after ≡ samples_from (length samples) format s
   unfolding taken_from decide
   taken-samples e = d.lent_is ∙ rw (sym taken_answer_lem ∙ e)

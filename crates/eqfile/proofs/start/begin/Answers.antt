@@ -13,5 +13,5 @@ returns-then-n-ne-BANDS c =
 
 pub returns : goal.returns
 returns c =
-    eight c.in-Taken.n c.args.front.now (start_answer c.plan.result) c.if-n-ne-BANDS.false (c.plan.ensures ∙ ap plan_of c.read.ensures)
+    eight c.in-Taken.n c.args.front.now (start_answer c.planned.result) c.if-n-ne-BANDS.false (c.planned.ensures ∙ ap plan_of c.read.ensures)
     ∙ sym (ap (λ (x : Arguments). start_of x c.args.front.now) c.in-Taken.is)

@@ -1,9 +1,13 @@
 use Rattle.std.proofs.Common.{◌≡◌, sym, ap, ◌∙◌}
 use Rattle.wave.specs.Walk.{read_answer}
 use Rattle.wave.specs.declared.reader.Reading.{Reading}
-use Rattle.eqfile.specs.Start.{plan_of}
+use Rattle.answers.specs.Answer.{Answer, refused}
+use Rattle.wave.specs.Walk as wave
+use Rattle.eqfile.specs.declared.refusal.Refusal.{Refusal}
+use Rattle.eqfile.specs.declared.plan.Plan.{Plan}
+use Rattle.eqfile.specs.Start.{number_of, plan_of}
 use Rattle.eqfile.proofs.StartOrder.{reader_refuses, too_long, to_be_written}
-use Rattle.eqfile.proofs.start.plan.Goals as goal
+use Rattle.eqfile.proofs.start.planned.Goals as goal
 
 -- what a reading comes to, from the case that it is
 from : {x y : Reading} → x ≡ y → plan_of (read_answer y) ≡ plan_of (read_answer x)
@@ -24,4 +28,6 @@ returns-else-channel_count-frames c =
     ∙ from r.is
 
 pub returns-in-Refused : goal.returns-in-Refused
-returns-in-Refused c = reader_refuses _ ∙ from c.in-Refused.is
+returns-in-Refused c =
+    let in_numbers : Refusal → Answer Plan = λ r. refused (number_of r) 0 in
+    ap in_numbers c.into.ensures ∙ reader_refuses (wave.number_of c.in-Refused.refused) ∙ from c.in-Refused.is
