@@ -9,9 +9,10 @@ use Prim.Native.Nat.{ℕ, zero, suc, ◌-◌, ◌*◌, ◌≤◌}
 use native.Mathlib.Omega.{arith}
 use borrow.Author.Tests.{eq-eqb, ne_eqb, le-leb, eqb-true, eqb-false, leb-true}
 use lib.Dec.{leb}
-use lib.ListN.{length, take, drop, replicate, length-drop, length-append}
+use lib.ListN.{length, take, drop, replicate, length-drop}
 use lib.Seq.{take_at, drop-append-le}
 use lib.IntN.{ℤ, pos}
+use Rattle.std.specs.Prelude.{Option, Some, None}
 use Rattle.answers.specs.Answer.{number_in}
 use Rattle.answers.specs.Checks.{check, all_hold, Outcome, decide, Done}
 use Rattle.answers.specs.Unit.{turn_room}
@@ -25,8 +26,6 @@ use Rattle.octave.specs.contracts.block.Blocked as declared
 use Rattle.samples.specs.Samples.{bytes_of, block_to}
 use Rattle.samples.specs.declared.block.Stored.{Stored}
 use Rattle.samples.proofs.Codec.{to_all}
-use Rattle.blocks.specs.declared.block.Equalised.{Equalised}
-use Rattle.blocks.specs.declared.block.Equalised.TheVariants.{Bytes, Refused}
 use Rattle.blocks.specs.Equalise.{zeros, block_for, lengths_fit, is_written, equalise_of}
 use Rattle.blocks.proofs.Outputs.{all_in_range, in_range_drop, equalised_long, equalised_in_range, held_ran, held_whole, refused_kept}
 
@@ -82,27 +81,27 @@ module _ (memory gains input : List ℤ) (skipped : ℕ) (stored : List ℕ) (l 
   -- the lengths are right: the block call decides
   judged : (w : Bool) → is_written (block_for memory gains input).result ≡ w →
       equalise_of memory gains input skipped stored ≡
-      cond w (record { result = Bytes (length stored); lent = ((block_for memory gains input).lent.0, bytes_of (drop skipped (block_for memory gains input).lent.1)) })
-      (record { result = Refused; lent = (memory, stored) })
+      cond w (record { result = Some (length stored); lent = ((block_for memory gains input).lent.0, bytes_of (drop skipped (block_for memory gains input).lent.1)) })
+      (record { result = None; lent = (memory, stored) })
   unfolding equalise_of
   judged w e =
-      second (lengths_fit (length input) skipped (length stored)) (is_written (block_for memory gains input).result) w Refused (Bytes (length stored)) (memory, stored)
+      second (lengths_fit (length input) skipped (length stored)) (is_written (block_for memory gains input).result) w None (Some (length stored)) (memory, stored)
       ((block_for memory gains input).lent.0, bytes_of (drop skipped (block_for memory gains input).lent.1)) (lengths_fit_lem (length input) skipped (length stored) l) e
 
   -- an accepted block: the memory is advanced, and the bytes of its outputs but the first are stored
   pub equalised_is : all_hold (block_checks memory gains input (zeros input)) ≡ true →
       equalise_of memory gains input skipped stored ≡
-      record { result = Bytes (length stored); lent = ((block_for memory gains input).lent.0, bytes_of (drop skipped (block_for memory gains input).lent.1)) }
+      record { result = Some (length stored); lent = ((block_for memory gains input).lent.0, bytes_of (drop skipped (block_for memory gains input).lent.1)) }
   equalised_is h = judged true (ap (λ (b : Outcome Blocked (List ℤ × List ℤ)). is_written b.result) (held_ran memory gains input (zeros input) h))
 
   module _ (b : Blocked) (m o : List ℤ) (d : Done (block_for memory gains input) b (m, o)) where
-    pub call_refused : is_written b ≡ false → Done (equalise_of memory gains input skipped stored) Refused (m, stored)
+    pub call_refused : is_written b ≡ false → Done (equalise_of memory gains input skipped stored) None (m, stored)
     call_refused e =
         let w : is_written (block_for memory gains input).result ≡ false = ap is_written (sym d.result_is) ∙ e in
         let kept : m ≡ memory = ap (λ (x : List ℤ × List ℤ). x.0) (d.lent_is ∙ refused_kept memory gains input (zeros input) (eqb-false (number_in (block_answer (block_for memory gains input).result)) 0 w)) in
         record {
-          result_is = sym (ap (λ (x : Outcome Equalised (List ℤ × List ℕ)). x.result) (judged false w));
-          lent_is = ap (λ (x : List ℤ). (x, stored)) kept ∙ sym (ap (λ (x : Outcome Equalised (List ℤ × List ℕ)). x.lent) (judged false w));
+          result_is = sym (ap (λ (x : Outcome (Option ℕ) (List ℤ × List ℕ)). x.result) (judged false w));
+          lent_is = ap (λ (x : List ℤ). (x, stored)) kept ∙ sym (ap (λ (x : Outcome (Option ℕ) (List ℤ × List ℕ)). x.lent) (judged false w));
         }
 
     module _ (e : is_written b ≡ true) where
@@ -118,11 +117,8 @@ module _ (memory gains input : List ℤ) (skipped : ℕ) (stored : List ℕ) (l 
       o_long : length o ≡ length input
       o_long = ap length o_is ∙ equalised_long memory gains input (held_whole memory gains input (zeros input) held)
 
-      pub outputs_there : (rest : List ℤ) → length input ≤ length (o ++ rest)
-      outputs_there rest = omega (arith, o_long, length-append o rest)
-
       pub call_stored : (rest : List ℤ) (r : Stored) (t : List ℕ) → length t ≡ length stored →
-          Done (block_to (take (length input - skipped) (drop skipped (o ++ rest))) stored) r t → Done (equalise_of memory gains input skipped stored) (Bytes (length t)) (m, t)
+          Done (block_to (take (length input - skipped) (drop skipped (o ++ rest))) stored) r t → Done (equalise_of memory gains input skipped stored) (Some (length t)) (m, t)
       call_stored rest r t k s =
           let part : take (length input - skipped) (drop skipped (o ++ rest)) ≡ drop skipped o =
           ap (take (length input - skipped)) (drop-append-le skipped o rest (omega (arith, o_long, l.within))) ∙
@@ -132,10 +128,10 @@ module _ (memory gains input : List ℤ) (skipped : ℕ) (stored : List ℕ) (l 
           let bytes : t ≡ bytes_of (drop skipped o) =
           s.lent_is ∙ ap (λ (x : List ℤ). (block_to x stored).lent) part ∙ ap (λ (x : Outcome Stored (List ℕ)). x.lent) (to_all (drop skipped o) stored fits range) in
           record {
-            result_is = ap Bytes k ∙ sym (ap (λ (x : Outcome Equalised (List ℤ × List ℕ)). x.result) (judged true written));
+            result_is = ap (λ (n : ℕ). Some n) k ∙ sym (ap (λ (x : Outcome (Option ℕ) (List ℤ × List ℕ)). x.result) (judged true written));
             lent_is =
                 (λ i. ((d.lent_is i).0, bytes i)) ∙ ap (λ (x : List ℤ × List ℤ). ((block_for memory gains input).lent.0, bytes_of (drop skipped x.1))) d.lent_is ∙
-                sym (ap (λ (x : Outcome Equalised (List ℤ × List ℕ)). x.lent) (judged true written));
+                sym (ap (λ (x : Outcome (Option ℕ) (List ℤ × List ℕ)). x.lent) (judged true written));
           }
 
 -- a part of the cleared outputs

@@ -1,5 +1,5 @@
 -- One block through the equaliser, from samples to bytes.
-use Rattle.std.specs.Prelude.{Bool, ◌&&◌, List, [], ◌∷◌, ℕ, ◌-◌, ◌*◌, eqb, leb, length, drop, replicate, ℤ, pos}
+use Rattle.std.specs.Prelude.{Bool, ◌&&◌, List, [], ◌∷◌, ℕ, ◌-◌, ◌*◌, eqb, leb, length, drop, replicate, ℤ, pos, Option, Some, None}
 use Rattle.answers.specs.Answer.{number_in}
 use Rattle.answers.specs.Checks.{Check, check, Outcome, decide}
 use Rattle.answers.specs.Unit.{turn_room}
@@ -7,8 +7,6 @@ use Rattle.samples.specs.Samples.{bytes_of}
 use Rattle.octave.specs.declared.block.Blocked.{Blocked}
 use Rattle.octave.specs.Answer.{block_answer}
 use Rattle.octave.specs.Block.{block_of}
-use Rattle.blocks.specs.declared.block.Equalised.{Equalised}
-use Rattle.blocks.specs.declared.block.Equalised.TheVariants.{Bytes, Refused}
 
 -- rule 10.17: a block's output starts as zeros
 abbrev pub zeros : List ℤ → List ℤ
@@ -27,13 +25,13 @@ abbrev pub is_written : Blocked → Bool
 is_written b = eqb (number_in (block_answer b)) 0
 
 -- rule 10.16: the lengths, and then the block call
-abbrev pub equalise_checks : (memory gains input : List ℤ) → ℕ → List ℕ → List (Check Equalised)
+abbrev pub equalise_checks : (memory gains input : List ℤ) → ℕ → List ℕ → List (Check (Option ℕ))
 equalise_checks memory gains input skipped stored =
-    check (lengths_fit (length input) skipped (length stored)) Refused ∷
-    check (is_written (block_for memory gains input).result) Refused ∷ []
+    check (lengths_fit (length input) skipped (length stored)) None ∷
+    check (is_written (block_for memory gains input).result) None ∷ []
 
 -- rule 10.16: memory and stored bytes afterwards: those of the outputs but the first `skipped` samples
-unfoldable pub equalise_of : (memory gains input : List ℤ) → ℕ → List ℕ → Outcome Equalised (List ℤ × List ℕ)
+unfoldable pub equalise_of : (memory gains input : List ℤ) → ℕ → List ℕ → Outcome (Option ℕ) (List ℤ × List ℕ)
 equalise_of memory gains input skipped stored =
     let b = block_for memory gains input in
-    decide (equalise_checks memory gains input skipped stored) (memory, stored) (Bytes (length stored)) (b.lent.0, bytes_of (drop skipped b.lent.1))
+    decide (equalise_checks memory gains input skipped stored) (memory, stored) (Some (length stored)) (b.lent.0, bytes_of (drop skipped b.lent.1))

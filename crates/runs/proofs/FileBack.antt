@@ -25,7 +25,8 @@ use Rattle.wave_writer.specs.declared.writer.Written.{Written}
 use Rattle.wave_writer.proofs.Writing.{write_accepts}
 use Rattle.wave_writer.proofs.RoundTrips.{found_in, header-read-back}
 use Rattle.arguments.specs.Arguments.{bands}
-use Rattle.eqfile.specs.Start.{Plan, plan_of}
+use Rattle.eqfile.specs.declared.plan.Plan.{Plan}
+use Rattle.eqfile.specs.Start.{plan_of}
 use Rattle.eqfile.proofs.StartOrder.{to_be_written, eight}
 use Rattle.runs.specs.Program.{fresh, handed, ByPlan}
 use Rattle.runs.specs.Started.{Started, file_of}

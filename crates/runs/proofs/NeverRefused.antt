@@ -8,6 +8,7 @@ use native.Mathlib.Omega.{arith}
 use borrow.Author.Tests.{eq-eqb, le-leb, le-ltb}
 use lib.ListN.{length, drop, replicate, length-replicate}
 use lib.IntN.{ℤ, pos}
+use Rattle.std.specs.Prelude.{Some}
 use Rattle.answers.specs.Checks.{all_hold, Outcome}
 use Rattle.answers.specs.Range.{all_within}
 use Rattle.answers.specs.Unit.{block_limit, turn_room, largest_gain}
@@ -26,7 +27,6 @@ use Rattle.samples.specs.Channels.{count_of}
 use Rattle.samples.specs.declared.channels.Channels.{Channels}
 use Rattle.samples.specs.Samples.{bytes_of}
 use Rattle.wave_writer.proofs.Counts.{count_allowed_lem}
-use Rattle.blocks.specs.declared.block.Equalised.TheVariants.{Bytes}
 use Rattle.arguments.specs.Arguments.{bands}
 use Rattle.blocks.specs.Equalise.{zeros, block_for, equalise_of}
 use Rattle.blocks.proofs.Outputs.{all_in_range, equalised_long, held_ran, held_whole}
@@ -98,7 +98,7 @@ module _ (channels : Channels) where
     pub long : length (block_for m gains input).lent.1 ≡ length input
     pub ready : Ready channels (block_for m gains input).lent.0
     pub is : equalise_of m gains input skipped stored ≡
-        record { result = Bytes (length stored); lent = ((block_for m gains input).lent.0, bytes_of (drop skipped (block_for m gains input).lent.1)) }
+        record { result = Some (length stored); lent = ((block_for m gains input).lent.0, bytes_of (drop skipped (block_for m gains input).lent.1)) }
 
   pub block_taken : (m gains input : List ℤ) (skipped : ℕ) (stored : List ℕ) → Ready channels m → Allowed gains → length input % count_of channels ≡ 0 → length input ≤ turn_room →
       all_in_range input ≡ true → skipped ≤ length input → length stored ≡ 3 * (length input - skipped) → BlockTaken m gains input skipped stored

@@ -8,6 +8,7 @@ use native.Mathlib.Omega.{arith}
 use lib.Dec.{ltb}
 use lib.ListN.{length}
 use lib.IntN.{ℤ, pos}
+use Rattle.std.specs.Prelude.{Ok}
 use Rattle.frames.proofs.Laws.{whole_frames_lem}
 use Rattle.answers.specs.Answer.{Answer, accepted, refused}
 use Rattle.answers.specs.Unit.{largest_data, front_length}
@@ -22,9 +23,9 @@ use Rattle.wave.proofs.Answers.{accepted_rate, accepted_whole, accepted_start}
 use Rattle.wave_writer.proofs.Writing.{write_accepts}
 use Rattle.arguments.specs.declared.taking.Arguments.{Arguments}
 use Rattle.arguments.specs.declared.taking.Arguments.TheVariants.{Taken}
-use Rattle.eqfile.specs.declared.start.Start.TheVariants.{Run}
 use Rattle.arguments.specs.Arguments.{bands, all_of, arguments_of}
-use Rattle.eqfile.specs.Start.{Plan, plan_for, plan_of, start_of, start_answer}
+use Rattle.eqfile.specs.declared.plan.Plan.{Plan}
+use Rattle.eqfile.specs.Start.{plan_for, plan_of, start_of, start_answer}
 use Rattle.eqfile.proofs.StartOrder.{Writable, writable}
 use Rattle.eqfile.proofs.AllArguments.{Promised, arguments_promise}
 use Rattle.runs.specs.Program.{frame_bytes}
@@ -35,7 +36,7 @@ clash e = let z : ◌≡◌ {A = ℕ} 0 1 = cc in absurd (omega arith)
 
 -- what the program begins with: the arguments taken in turn into eight places, and a start that is a run
 pub started : (texts : List (List ℕ)) (before gains : List ℤ) (a : Arguments) (front : List ℕ) (rate : ℕ) (format : Format) (channels : Channels) (frames start : ℕ) → length before ≡ bands →
-    length front ≤ front_length → (a, gains) ≡ all_of (Taken 0, before) texts → start_answer (Run rate format channels frames start) ≡ start_of a front → Started gains front rate format channels frames start
+    length front ≤ front_length → (a, gains) ≡ all_of (Taken 0, before) texts → start_answer (Ok (record { rate = rate; format = format; channels = channels; frames = frames; start = start })) ≡ start_of a front → Started gains front rate format channels frames start
 started texts before gains a front rate format channels frames start eight few all begins = by (arguments_of texts) refl (arguments_promise texts before eight)
   where
     by : (q : Answer (List ℤ)) → arguments_of texts ≡ q → Promised q (all_of (Taken 0, before) texts) → Started gains front rate format channels frames start
@@ -92,7 +93,7 @@ module _ {gains : List ℤ} {front : List ℕ} {rate : ℕ} {format : Format} {c
   unfolding start_of plan_of
   stated = by (read_of front) refl s.begins
     where
-      by : (a : Answer Found) → read_of front ≡ a → start_answer (Run rate format channels frames start) ≡ plan_of a → Stated front rate format channels frames start
+      by : (a : Answer Found) → read_of front ≡ a → start_answer (Ok (record { rate = rate; format = format; channels = channels; frames = frames; start = start })) ≡ plan_of a → Stated front rate format channels frames start
       by (accepted f) read e = stated_plan front f read rate format channels frames start e
       by (refused k n) read e = clash e
 

@@ -1,4 +1,4 @@
-use Rattle.std.proofs.Common.{◌≡◌, sym, ap, subst, ◌∙◌, List, ℕ, length, take, replicate, ℤ, pos}
+use Rattle.std.proofs.Common.{◌≡◌, refl, sym, ap, subst, ◌∙◌, List, ℕ, length, take, replicate, ℤ, pos}
 use Rattle.answers.specs.Checks.{Done}
 use Rattle.answers.specs.Unit.{turn_room}
 use Rattle.answers.proofs.Branches.{judging}
@@ -22,8 +22,8 @@ pub returns-then-not-is_written : goal.returns-then-not-is_written
 returns-then-not-is_written c =
     let a = c.args in
     let right = lengths (length a.input.now) a.skipped (length a.stored.now) (sym c.fits.ensures ∙ c.if-not-fits.false) in
-    let call = called a.memory.now a.gains.now a.input.now c.cleared-output.result a.skipped (length a.stored.now) c.block.result c.block.new.memory c.block.new.output
-    right c.cleared-output.ensures c.block.ensures in
+    let call = called a.memory.now a.gains.now a.input.now (replicate turn_room (pos 0)) a.skipped (length a.stored.now) c.block.result c.block.new.memory c.block.new.output
+    right refl c.block.ensures in
     call_refused a.memory.now a.gains.now a.input.now a.skipped a.stored.now right c.block.result c.block.new.memory c.block.new.output call
     (sym c.is_written.ensures ∙ c.if-not-is_written.true)
 
@@ -31,7 +31,7 @@ pub returns : goal.returns
 returns c =
     let a = c.args in
     let right = lengths (length a.input.now) a.skipped (length a.stored.now) (sym c.fits.ensures ∙ c.if-not-fits.false) in
-    let call = called a.memory.now a.gains.now a.input.now c.cleared-output.result a.skipped (length a.stored.now) c.block.result c.block.new.memory c.block.new.output
-    right c.cleared-output.ensures c.block.ensures in
+    let call = called a.memory.now a.gains.now a.input.now (replicate turn_room (pos 0)) a.skipped (length a.stored.now) c.block.result c.block.new.memory c.block.new.output
+    right refl c.block.ensures in
     call_stored a.memory.now a.gains.now a.input.now a.skipped a.stored.now right c.block.result c.block.new.memory c.block.new.output call
     (sym c.is_written.ensures ∙ c.if-not-is_written.false) _ c.samples_to_bytes.result c.samples_to_bytes.new.buffer c.samples_to_bytes.auto.buffer c.samples_to_bytes.ensures
