@@ -1,11 +1,9 @@
 -- One block through the equaliser, from samples to bytes.
-use Rattle.std.specs.Prelude.{Bool, ◌&&◌, List, [], ◌∷◌, ℕ, ◌-◌, ◌*◌, eqb, leb, length, drop, replicate, ℤ, pos, Option, Some, None}
-use Rattle.answers.specs.Answer.{number_in}
+use Rattle.std.specs.Prelude.{Bool, ◌&&◌, List, [], ◌∷◌, ℕ, ◌-◌, ◌*◌, eqb, leb, length, drop, replicate, ℤ, pos, Option, Some, None, Result, is_ok}
 use Rattle.answers.specs.Checks.{Check, check, Outcome, decide}
 use Rattle.answers.specs.Unit.{turn_room}
 use Rattle.samples.specs.Samples.{bytes_of}
-use Rattle.octave.specs.declared.block.Blocked.{Blocked}
-use Rattle.octave.specs.Answer.{block_answer}
+use Rattle.octave.specs.declared.block.BlockError.{BlockError}
 use Rattle.octave.specs.Block.{block_of}
 
 -- rule 10.17: a block's output starts as zeros
@@ -13,7 +11,7 @@ abbrev pub zeros : List ℤ → List ℤ
 zeros input = replicate (length input) (pos 0)
 
 -- rule 10.16: the block call of the samples
-abbrev pub block_for : (memory gains input : List ℤ) → Outcome Blocked (List ℤ × List ℤ)
+abbrev pub block_for : (memory gains input : List ℤ) → Outcome (Result ℕ BlockError) (List ℤ × List ℤ)
 block_for memory gains input = block_of memory gains input (zeros input)
 
 -- rule 10.16: no more samples than a turn has room for, no more dropped than there are, and three bytes for each other output
@@ -21,8 +19,8 @@ abbrev pub lengths_fit : (n skipped bytes : ℕ) → Bool
 lengths_fit n skipped bytes = leb n turn_room && (leb skipped n && eqb bytes (3 * (n - skipped)))
 
 -- rule 10.16: whether the block call accepted
-abbrev pub is_written : Blocked → Bool
-is_written b = eqb (number_in (block_answer b)) 0
+abbrev pub is_written : Result ℕ BlockError → Bool
+is_written b = is_ok b
 
 -- rule 10.16: the lengths, and then the block call
 abbrev pub equalise_checks : (memory gains input : List ℤ) → ℕ → List ℕ → List (Check (Option ℕ))

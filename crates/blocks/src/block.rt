@@ -1,25 +1,16 @@
 // One block: samples through the equaliser, and its outputs to bytes.
 ghost use Rattle.std.specs.Prelude.{◌≡◌};
 ghost use Rattle.answers.specs.Checks.{Done};
-ghost use Rattle.blocks.specs.Equalise.{lengths_fit, is_written, equalise_of};
+ghost use Rattle.blocks.specs.Equalise.{lengths_fit, equalise_of};
 
 use answers::unit::TURN_ROOM;
-use octave::block::{Blocked, block};
+use octave::block::block;
 
 // Whether a block of n samples, of which so many outputs are dropped, goes into so many bytes.
 fn fits(n: usize, skipped: usize, bytes: usize) -> bool
     ensures { result ≡ lengths_fit n skipped bytes }
 {
     n <= TURN_ROOM && skipped <= n && bytes == 3 * (n - skipped)
-}
-
-fn is_written(blocked: Blocked) -> bool
-    ensures { result ≡ is_written blocked }
-{
-    let Blocked::Written(_) = blocked else {
-        return false;
-    };
-    true
 }
 
 // Equalises a block of the memory's channels, frame behind frame, stores its outputs but the first `skipped` samples, three bytes each, and answers how
@@ -38,9 +29,6 @@ pub fn equalise(
         return None;
     }
     let mut output = [0; TURN_ROOM];
-    if !is_written(block(memory, gains, input, &mut output[..n])) {
-        return None;
-    }
-    samples::samples_to_bytes(&output[skipped..n], stored);
-    Some(stored.len())
+    block(memory, gains, input, &mut output[..n]).ok()?;
+    samples::samples_to_bytes(&output[skipped..n], stored).ok()
 }

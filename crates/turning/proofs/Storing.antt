@@ -12,6 +12,7 @@ use Rattle.std.specs.Prelude.{Option, Some, IsSome, is_some, Result, Ok, Err, is
 use Rattle.std.specs.Option.{unwrap_or}
 use Rattle.std.specs.declared.io.Error.{Error}
 use Rattle.eqfile.specs.declared.refusal.Refusal.{Refusal}
+use Rattle.std.proofs.lemmas.List.{take-replicate}
 use Rattle.answers.specs.Checks.{Outcome, Done}
 use Rattle.answers.specs.Unit.{turn_room}
 use Rattle.samples.specs.Channels.{count_of}
@@ -28,11 +29,6 @@ use Rattle.turning.specs.declared.place.Place.{Place}
 use Rattle.turning.specs.declared.turn.Stop.{Stop}
 use Rattle.turning.specs.declared.turn.Stop.TheVariants.{NotANumber, OutputFailed}
 use Rattle.turning.specs.Running.{state_at, Arrived, Came, Stopped, Due, PutDone, Further}
-
-cut : {A : Type 0} (n m : ℕ) (x : A) → n ≤ m → take n (replicate m x) ≡ replicate n x
-cut zero m x h = refl
-cut (suc n) zero x h = absurd (omega arith)
-cut {A} (suc n) (suc m) x h = ap (λ (l : List A). x ∷ l) (cut n m x (omega arith))
 
 equalised-same : (memory gains : List ℤ) {xs ys : List ℤ} {k j : ℕ} {s t : List ℕ} → xs ≡ ys → k ≡ j → s ≡ t → equalise_of memory gains xs k s ≡ equalise_of memory gains ys j t
 equalised-same memory gains e f g = λ i. equalise_of memory gains (e i) (f i) (g i)
@@ -138,7 +134,7 @@ module _ {plan : Plan} {gains : List ℤ} {front : List ℕ} {place : Place} {me
         equalised-same memory gains
         (take_at xs (drop (n * turn.fed) (replicate turn_room (pos 0))) (n * turn.fed) xs_long ∙ all.is)
         refl
-        (cut turn.written (4 * turn_room) 0 bytes_there) ∙
+        (take-replicate turn.written (4 * turn_room) 0 bytes_there) ∙
         (λ i.
         let t = here.turn_is i in
         equalise_of memory gains (samples_from (all.sides i * t.fed) plan.format piece) (all.sides i * t.skipped) (replicate t.written 0))
