@@ -7,10 +7,14 @@ use native.Mathlib.Nat.{le_of_suc-le-suc, not-suc-le-zero}
 use native.Mathlib.Numerals.{add-one}
 use native.Mathlib.Omega.{arith}
 use native.Mathlib.Decide.{dec_lt}
-use borrow.Author.Tests.{leb-true, leb-false, le-leb, lt-leb}
+use borrow.Author.Tests.{leb-true, leb-false, le-leb, lt-leb, lt-ltb, le-ltb}
 use lib.Dec.{leb}
 use lib.ListN.{length, get_or, drop, drop_of_length-le}
 use lib.Seq.{drop-cons}
+use Rattle.std.proofs.Common.{Option, None, Some, not, ltb}
+use Rattle.std.specs.Option.{unwrap_or}
+use Rattle.std.specs.List.{position_or_len}
+use Rattle.std.proofs.lemmas.List.Recursion.{is_position_or_len}
 use Rattle.answers.specs.First.{first_failing, FirstFails, all_pass}
 
 module _ {A : Type 0} (test : A → Bool) (other : A) where
@@ -79,6 +83,35 @@ same_order n k = order (dec_lt k n)
     order (no l) = le-leb (suc n) (suc k) (omega arith) ∙ sym (le-leb n k (omega arith))
 
 module _ {A : Type 0} (test : A → Bool) where
+  -- it is the library's first that does not pass
+  first_is : (s : List A) → first_failing test s ≡ position_or_len (λ x. not (test x)) s
+  unfolding first_failing
+  first_is s = is_position_or_len (first_failing test) (λ x. not (test x)) refl (λ x xs. by (test x) (first_failing test xs)) s
+    where
+      by : (t : Bool) (k : ℕ) → cond t (suc k) 0 ≡ cond (not t) 0 (1 + k)
+      by true k = omega arith
+      by false k = refl
+
+  at_most : (s : List A) → first_failing test s ≤ length s
+  unfolding first_failing
+  at_most [] = omega arith
+  at_most (x ∷ xs) = by (test x) (first_failing test xs) (at_most xs)
+    where
+      by : (t : Bool) (k : ℕ) → k ≤ length xs → cond t (suc k) 0 ≤ suc (length xs)
+      by true k h = omega arith
+      by false k h = omega arith
+
+  pub found_first : (s : List A) {n : ℕ} {r : Option ℕ} → let p = position_or_len (λ x. not (test x)) s in
+      r ≡ cond (ltb p (length s)) (Some p) None → n ≡ unwrap_or r (length s) → n ≡ first_failing test s
+  found_first s e f = f ∙ ap (λ o. unwrap_or o (length s)) e ∙ by (first_is s) (dec_lt p (length s)) ∙ sym (first_is s)
+    where
+      p : ℕ
+      p = position_or_len (λ x. not (test x)) s
+
+      by : first_failing test s ≡ p → Dec (p < length s) → unwrap_or (cond (ltb p (length s)) (Some p) None) (length s) ≡ p
+      by q (yes h) = rw (lt-ltb p (length s) h) refl
+      by q (no h) = rw (le-ltb p (length s) (omega arith)) (omega (arith, at_most s))
+
   pub all_cons : (x : A) (xs : List A) → all_pass test (x ∷ xs) ≡ true → (test x ≡ true) × (all_pass test xs ≡ true)
   unfolding first_failing
   all_cons x xs e = by (test x) (first_failing test xs) e

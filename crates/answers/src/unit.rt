@@ -11,9 +11,14 @@ pub const LEAST_SAMPLE: i32 = -8388608;
 
 pub const MOST_SAMPLE: i32 = 8388607;
 
+// The ends of a lent place, 32 bits.
+pub const LEAST_PLACE: i32 = i32::MIN;
+
+pub const MOST_PLACE: i32 = i32::MAX;
+
 pub const LARGEST_GAIN: i32 = 16384;
 // The gain that changes nothing.
-pub const UNITY: i64 = 4096;
+pub const UNITY: u32 = 4096;
 // The most frames of a block.
 pub const BLOCK_LIMIT: usize = 4096;
 // The most frames that the program feeds in one block.

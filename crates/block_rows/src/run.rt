@@ -1,6 +1,6 @@
 // One side's samples through its lines, row after row.
 ghost use Rattle.std.specs.Prelude.{◌≡◌, ◌≤◌, ◌<◌, ◌+◌, ◌-◌, ◌*◌, ◌%◌, length};
-ghost use Rattle.frames.specs.Frames.{side, side_of};
+ghost use Rattle.frames.specs.Frames.{side as side_numbers, side_of};
 ghost use Rattle.tree.specs.Prototype.{published};
 ghost use Rattle.lines.specs.Cascade.{run};
 ghost use Rattle.lines.specs.Rows.{row_places, wrapped, rowed};
@@ -9,19 +9,18 @@ ghost use Rattle.weighing.specs.Helpers.{Allowed};
 ghost use Rattle.block_rows.specs.Helpers.{Second, BothDone};
 
 use frames::count::frames_in;
-use frames::sides::gather;
+use frames::sides::Side;
 use lines::cascade::cascade;
 use lines::row::ROW;
-use weighing::differences::differences;
 use weighing::rows::{weigh_rows, weigh_with};
-use whole::counts::least;
+use weighing::weights::Weights;
 
 // How many samples the next row has: not past the matrix, the block or the ring's end.
 fn row_length(size: usize, at: usize, left: usize) -> usize
     requires { (at < size) × (1 ≤ left) }
     ensures { (1 ≤ result) × (result ≤ row_places) × (result ≤ left) × (at + result ≤ size) }
 {
-    least(least(ROW, left), size - at)
+    ROW.min(left).min(size - at)
 }
 
 // The place n samples on, where a row ends: at the ring's end it is 0.
@@ -29,32 +28,28 @@ fn wrapped(size: usize, at: usize) -> usize
     requires { at ≤ size }
     ensures { result ≡ wrapped size at }
 {
-    if at < size {
-        return at;
-    }
-    0
+    if at < size { at } else { 0 }
 }
 
-// A row of n samples of side s: taken out of its frames and through the lines; the rows then show each line's aligned samples.
+// A row of n samples of one side: taken out of its frames and through the lines; the rows then show each line's aligned samples.
 fn side_row(
     lines: &mut [i32],
     size: usize,
     at: usize,
     bands: usize,
-    channels: usize,
-    s: usize,
+    side: Side,
     n: usize,
     input: &[i32],
     rows: &mut [i32],
 )
-    requires { RowRegion published bands size at 1 n lines.old rows.old × (s < channels) × (length input.now ≡ channels * n) × (channels ≤ 2) }
-    ensures { RowsDone (rowed published size (bands - 1) 1 at lines.old (side channels s n input.now)) n lines.new rows.new }
+    requires { RowRegion published bands size at 1 n lines.old rows.old × (length input.now ≡ side.channels * n) }
+    ensures { RowsDone (rowed published size (bands - 1) 1 at lines.old (side_numbers side.channels side.s n input.now)) n lines.new rows.new }
 {
-    gather(input, channels, s, n, rows);
+    side.gather(input, n, rows);
     cascade(lines, size, at, 1, bands, n, rows);
 }
 
-// Every sample of side s, from the position `from`, in the matrix lent, weighed with `gains` into the output; where there are other gains, each row is
+// Every sample of one side, from the position `from`, in the matrix lent, weighed with `gains` into the output; where there are other gains, each row is
 // weighed with them too, into the second output. Answers the position afterwards.
 pub fn each_row(
     lines: &mut [i32],
@@ -63,31 +58,28 @@ pub fn each_row(
     bands: usize,
     gains: &[i32],
     others: &[i32],
-    channels: usize,
-    s: usize,
+    side: Side,
     input: &[i32],
     rows: &mut [i32],
     output: &mut [i32],
     second: &mut [i32],
 ) -> usize
-    requires { Region published bands size 1 lines.old × (from < size) × Allowed bands gains.now × Second bands others.now input.now second.old × (s < channels) × (channels ≤ 2) × (length output.old ≡ length input.now) × (length input.now % channels ≡ 0) × (row_places * bands ≤ length rows.old) }
-    ensures { BothDone channels s (run published size (bands - 1) from lines.old (side_of channels s input.now)) gains.now others.now lines.new result output.old output.new second.old second.new }
+    requires { Region published bands size 1 lines.old × (from < size) × Allowed bands gains.now × Second bands others.now input.now second.old × (length output.old ≡ length input.now) × (length input.now % side.channels ≡ 0) × (row_places * bands ≤ length rows.old) }
+    ensures { BothDone side.channels side.s (run published size (bands - 1) from lines.old (side_of side.channels side.s input.now)) gains.now others.now lines.new result output.old output.new second.old second.new }
 {
-    let weights = differences(gains);
+    let weights = Weights::of(gains);
     let twice = 0 < others.len();
-    let frames = frames_in(input.len(), channels);
+    let frames = frames_in(input.len(), side.channels);
     let mut at = from;
     let mut i = 0;
     while i < frames {
         let n = row_length(size, at, frames - i);
-        let first = channels * i;
-        let end = channels * (i + n);
-        let samples = &input[first..end];
-        side_row(lines, size, at, bands, channels, s, n, samples, rows);
-        let part = &mut output[first..end];
-        weigh_rows(rows, bands, gains.len(), 0, &weights, channels, s, n, part);
+        let first = side.channels * i;
+        let end = side.channels * (i + n);
+        side_row(lines, size, at, bands, side, n, &input[first..end], rows);
+        weigh_rows(&weights, rows, bands, side, n, &mut output[first..end]);
         if twice {
-            weigh_with(others, rows, bands, channels, s, n, &mut second[first..end]);
+            weigh_with(others, rows, bands, side, n, &mut second[first..end]);
         }
         at = wrapped(size, at + n);
         i += n;

@@ -9,14 +9,15 @@ ghost use Rattle.block_rows.specs.Helpers.{Second};
 ghost use Rattle.block_sides.specs.Helpers.{Sides, BothSidesDone};
 
 use block_rows::run::each_row;
+use frames::sides::Side;
 
 // The places of ten rows, and of four: few bands clear few places.
 const TEN_ROWS: usize = 320;
 
 const FOUR_ROWS: usize = 128;
 
-// Every sample of the left side, and then of the right one if there is one.
-fn each_side(
+// Every sample of the left side, and then of the right one if there is one, in a matrix of so many places.
+fn each_side<const PLACES: usize>(
     lines: &mut [i32],
     size: usize,
     from: usize,
@@ -25,14 +26,14 @@ fn each_side(
     gains: &[i32],
     others: &[i32],
     input: &[i32],
-    rows: &mut [i32],
     output: &mut [i32],
     second: &mut [i32],
 ) -> usize
-    requires { Sides bands size channels lines.old input.now output.old × (from < size) × Allowed bands gains.now × Second bands others.now input.now second.old × (row_places * bands ≤ length rows.old) }
+    requires { Sides bands size channels lines.old input.now output.old × (from < size) × Allowed bands gains.now × Second bands others.now input.now second.old × (row_places * bands ≤ PLACES) × (PLACES ≤ row_places * 10) }
     ensures { BothSidesDone channels (length input.now / channels) (λ s. run published size (bands - 1) from (places_of ((bands - 1) * size) s lines.old) (side_of channels s input.now)) gains.now others.now lines.new result output.new second.new }
 {
     let places = (bands - 1) * size;
+    let mut rows = [0; PLACES];
     let at = each_row(
         &mut lines[..places],
         size,
@@ -40,10 +41,9 @@ fn each_side(
         bands,
         gains,
         others,
-        channels,
-        0,
+        Side { channels, s: 0 },
         input,
-        rows,
+        &mut rows,
         output,
         second,
     );
@@ -55,10 +55,9 @@ fn each_side(
             bands,
             gains,
             others,
-            channels,
-            1,
+            Side { channels, s: 1 },
             input,
-            rows,
+            &mut rows,
             output,
             second,
         );
@@ -83,13 +82,12 @@ pub fn run(
     ensures { BothSidesDone channels (length input.now / channels) (λ s. run published size (bands - 1) from (places_of ((bands - 1) * size) s lines.old) (side_of channels s input.now)) gains.now others.now lines.new result output.new second.new }
 {
     if bands <= 4 {
-        let mut rows = [0i32; FOUR_ROWS];
-        return each_side(
-            lines, size, from, bands, channels, gains, others, input, &mut rows, output, second,
-        );
+        each_side::<FOUR_ROWS>(
+            lines, size, from, bands, channels, gains, others, input, output, second,
+        )
+    } else {
+        each_side::<TEN_ROWS>(
+            lines, size, from, bands, channels, gains, others, input, output, second,
+        )
     }
-    let mut rows = [0i32; TEN_ROWS];
-    each_side(
-        lines, size, from, bands, channels, gains, others, input, &mut rows, output, second,
-    )
 }

@@ -132,12 +132,12 @@ unfolding side
 only_side [] = refl
 only_side (x ∷ xs) = ap (λ (l : List ℤ). x ∷ l) (only_side xs)
 
--- .. so a row that begins with the block begins with that side
-pub side_copied : (c s n : ℕ) (xs row : List ℤ) → c ≡ 1 → s < c → length xs ≡ c * n → take (length xs) row ≡ xs → take n row ≡ side c s n xs
-side_copied c s n xs row e h l r =
+-- .. so of one channel any side is the block
+pub side_alone : (c s n : ℕ) (xs : List ℤ) → c ≡ 1 → s < c → length xs ≡ c * n → side c s n xs ≡ xs
+side_alone c s n xs e h l =
     let first : s ≡ 0 = omega (arith, e) in
     let all : length xs ≡ n = l ∙ ap (λ (k : ℕ). k * n) e ∙ one-mul n in
-    ap (λ (k : ℕ). take k row) (sym all) ∙ r ∙ sym (ap₂ (λ (i j : ℕ). side i j n xs) e first ∙ ap (λ (k : ℕ). side 1 0 k xs) (sym all) ∙ only_side xs)
+    ap₂ (λ (i j : ℕ). side i j n xs) e first ∙ ap (λ (k : ℕ). side 1 0 k xs) (sym all) ∙ only_side xs
 
 pub one_channel : (xs : List ℤ) → side_of 1 0 xs ≡ xs
 one_channel xs = ap (λ (n : ℕ). side 1 0 n xs) (div-one (length xs)) ∙ only_side xs

@@ -7,36 +7,10 @@ use native.Mathlib.Numerals.{add-one}
 use native.Mathlib.Decide.{dec_lt}
 use native.Mathlib.Omega.{arith}
 use lib.ListN.{length, get_or, take, drop, set, length-set}
-use lib.Seq.{slice, slice-cons, slice_empty, take_all, take-suc-set, append_snoc, ext_get_or, get_or-set_same, get_or-set_other}
+use lib.Seq.{take-suc-set, append_snoc, ext_get_or, get_or-set_same, get_or-set_other}
 use lib.IntN.{ℤ, pos}
 use Rattle.frames.specs.Frames.{side}
 use Rattle.frames.proofs.Laws.{side-length, side_at, side-from, other_side, other_frame, place_inside}
-
--- ---- copied
-
--- the first i numbers stand in the row
-pub record Copying (x row₀ row : List ℤ) (i : ℕ) : Type 0 where
-  pub reached : i ≤ length x
-  pub same_row : length row ≡ length row₀
-  pub rest : take i row ++ slice i (length x) x ≡ x
-
-pub copying_starts : (x row : List ℤ) → Copying x row row 0
-copying_starts x row = record { reached = omega arith; same_row = refl; rest = take_all (length x) x (omega arith) }
-
-module _ (x row₀ row : List ℤ) (i : ℕ) (p : Copying x row₀ row i) where
-  pub copying_on : i < length x → length x ≤ length row₀ → Copying x row₀ (set row i (get_or x i (pos 0))) (i + 1)
-  copying_on h hr =
-      let v = get_or x i (pos 0) in
-      record {
-        reached = omega arith;
-        same_row = length-set row i v ∙ p.same_row;
-        rest = rw (add-one i, take-suc-set row i v (omega (arith, p.same_row)), append_snoc) (rw (slice-cons i (length x) x (pos 0) h (omega arith)) at p.rest);
-      }
-
-  pub copying_ends : length x ≤ i → take (length x) row ≡ x
-  copying_ends h =
-      let end : i ≡ length x = omega (arith, p.reached) in
-      rw (end, slice_empty (length x) x, append-nil) at p.rest
 
 -- ---- taken out
 

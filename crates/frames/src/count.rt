@@ -6,10 +6,7 @@ pub fn frames_in(length: usize, channels: usize) -> usize
     requires { (1 ≤ channels) × (channels ≤ 2) }
     ensures { result ≡ length / channels }
 {
-    if channels == 1 {
-        return length;
-    }
-    length / 2
+    if channels == 1 { length } else { length / 2 }
 }
 
 // Whether nothing is left over.
@@ -17,8 +14,5 @@ pub fn whole_frames(length: usize, channels: usize) -> bool
     requires { (1 ≤ channels) × (channels ≤ 2) }
     ensures { result ≡ eqb (length % channels) 0 }
 {
-    if channels == 1 {
-        return true;
-    }
-    length % 2 == 0
+    channels == 1 || length % 2 == 0
 }

@@ -96,19 +96,19 @@ module _ (p : Prototype) (size at L n : ℕ) (lines m : List ℤ) (q : Part p li
       }
 
 -- where the three parts end, and what is known of each
-pub record Cuts (at L n w v : ℕ) (size : ℕ) : Type 0 where
+pub record Cuts (at L n w v : ℕ) : Type 0 where
   pub first : w ≤ v
   pub second : v ≤ n
-  pub near : Between 0 (9 * L) at 0 w
-  pub far : Between (9 * L) (18 * L) at w v
-  pub straight : Between (18 * L) size at v n
+  pub near : Between 0 9 L at 0 w
+  pub far : Between 9 18 L at w v
+  pub straight : Between 18 19 L at v n
 
-pub cuts : (size at L n w v : ℕ) → at + n ≤ size → w ≡ min (9 * L - at) n → v ≡ min (18 * L - at) n → Cuts at L n w v size
-cuts size at L n w v h ew ev =
+pub cuts : (at L n w v : ℕ) → w ≡ min (9 * L - at) n → v ≡ min (18 * L - at) n → Cuts at L n w v
+cuts at L n w v ew ev =
     record {
       first = omega arith;
       second = omega arith;
-      near = λ s. (omega arith, omega arith);
-      far = λ s. (omega arith, omega arith);
-      straight = λ s. (omega arith, omega arith);
+      near = λ s. (omega arith, λ r. omega arith);
+      far = λ s. (omega arith, λ r. omega arith);
+      straight = λ s. (omega arith, λ r. omega arith);
     }

@@ -16,9 +16,10 @@ pub record Part (p : Prototype) (lines : List ℤ) (size at L from to : ℕ) (ma
   pub short : to ≤ row_places
   pub room : 2 * row_places ≤ length matrix
 
--- the places of its samples, if there are any, are from `least` on and before `end`
-abbrev pub Between : ℕ → ℕ → ℕ → ℕ → ℕ → Type 0
-Between least end at from to = from < to → (least ≤ at + from) × (at + to ≤ end)
+-- .. and what is known of the taps of each of its samples, if there are any: those up to back·L back stand before the position, those from
+-- round·L back on around the end (none is known to where `round` is above the last, 18)
+abbrev pub Between : (back round L at from to : ℕ) → Type 0
+Between back round L at from to = from < to → (back * L ≤ at + from) × (round ≤ 18 → at + to ≤ round * L)
 
 -- what it leaves: the line run over the part; its aligned samples in the first row and its low samples in the second, each behind those that
 -- stood there; the samples behind the part as they were

@@ -6,14 +6,13 @@ ghost use Rattle.tree.specs.Prototype.{published};
 ghost use Rattle.lines.specs.Rows.{row_places, line};
 ghost use Rattle.lines.specs.Helpers.{Between, Part, LineDone};
 
-use ring::line::{late_value, low_far, low_near, low_straight};
-use whole::counts::{least, left};
+use ring::line::Line;
 
 // The places of a row in the matrix.
 pub const ROW: usize = 32;
 
-// The samples from `from` to `to`, all before 9·l.
-fn near(
+// The samples from `from` to `to`. What is known of where their taps stand (ring::line::Line::low) is known of each.
+fn part<const BACK: usize, const ROUND: usize>(
     lines: &mut [i32],
     size: usize,
     at: usize,
@@ -22,62 +21,20 @@ fn near(
     to: usize,
     rows: &mut [i32],
 )
-    requires { Part published lines.old size at l from to rows.old × Between 0 (9 * l) at from to }
+    requires { Part published lines.old size at l from to rows.old × Between BACK ROUND l at from to }
     ensures { LineDone (line published size l (at + from) lines.old (slice from to (take row_places rows.old))) from to rows.old lines.new rows.new }
 {
-    let mut i = from;
-    while i < to {
+    for i in from..to {
         let x = rows[i];
-        rows[i] = late_value(lines, size, at + i, l);
-        rows[ROW + i] = low_near(lines, size, at + i, l, x);
+        let line = Line {
+            places: lines,
+            size,
+            at: at + i,
+            l,
+        };
+        rows[i] = line.late();
+        rows[ROW + i] = line.low::<BACK, ROUND>(x);
         lines[at + i] = x;
-        i += 1;
-    }
-}
-
-// .. all from 9·l on and before 18·l.
-fn far(
-    lines: &mut [i32],
-    size: usize,
-    at: usize,
-    l: usize,
-    from: usize,
-    to: usize,
-    rows: &mut [i32],
-)
-    requires { Part published lines.old size at l from to rows.old × Between (9 * l) (18 * l) at from to }
-    ensures { LineDone (line published size l (at + from) lines.old (slice from to (take row_places rows.old))) from to rows.old lines.new rows.new }
-{
-    let mut i = from;
-    while i < to {
-        let x = rows[i];
-        rows[i] = late_value(lines, size, at + i, l);
-        rows[ROW + i] = low_far(lines, size, at + i, l, x);
-        lines[at + i] = x;
-        i += 1;
-    }
-}
-
-// .. all from 18·l on.
-fn straight(
-    lines: &mut [i32],
-    size: usize,
-    at: usize,
-    l: usize,
-    from: usize,
-    to: usize,
-    rows: &mut [i32],
-)
-    requires { Part published lines.old size at l from to rows.old × Between (18 * l) size at from to }
-    ensures { LineDone (line published size l (at + from) lines.old (slice from to (take row_places rows.old))) from to rows.old lines.new rows.new }
-{
-    let mut i = from;
-    while i < to {
-        let x = rows[i];
-        rows[i] = late_value(lines, size, at + i, l);
-        rows[ROW + i] = low_straight(lines, size, at + i, l, x);
-        lines[at + i] = x;
-        i += 1;
     }
 }
 
@@ -85,7 +42,7 @@ fn straight(
 fn up_to(end: usize, at: usize, n: usize) -> usize
     ensures { result ≡ min (end - at) n }
 {
-    least(left(end, at), n)
+    end.saturating_sub(at).min(n)
 }
 
 // A whole row of n samples: the parts where taps wrap come first.
@@ -102,7 +59,7 @@ pub(crate) fn line_over(
 {
     let w = up_to(9 * l, at, n);
     let v = up_to(18 * l, at, n);
-    near(lines, size, at, l, 0, w, rows);
-    far(lines, size, at, l, w, v, rows);
-    straight(lines, size, at, l, v, n, rows);
+    part::<0, 9>(lines, size, at, l, 0, w, rows);
+    part::<9, 18>(lines, size, at, l, w, v, rows);
+    part::<18, 19>(lines, size, at, l, v, n, rows);
 }

@@ -2,7 +2,7 @@
 use mathlib.Core.Path.{◌≡◌, refl, sym, ap, ◌∙◌}
 use mathlib.Core.List.{List}
 use Prim.Native.Nat.{ℕ, zero, suc, ◌+◌, ◌-◌, ◌*◌, ◌≤◌, ◌<◌, ◌^◌}
-use native.Mathlib.Nat.{mul_comm, mul-le-mul_right, le_trans}
+use native.Mathlib.Nat.{mul_comm}
 use native.Mathlib.Omega.{arith}
 use borrow.Author.Tests.{le-leb, lt-leb}
 use lib.Dec.{lit<, lit≤}
@@ -75,26 +75,7 @@ unfolding tap
 read-tap line size at L x zero r s e f = absurd (omega arith)
 read-tap line size at L x (suc i) r s e f = record { fits = f; value = e ∙ ap (ago line size at) (mul_comm (suc i) L) }
 
-module _ (i k L at : ℕ) where
-  -- what is known of one tap is known of the newer ones, or of the older
-  pub back_too : i ≤ k → k * L ≤ at → i * L ≤ at
-  back_too h e = le_trans (mul-le-mul_right L h) e
-
-  pub round_too : k ≤ i → at < k * L → at < i * L
-  round_too h e = le_trans e (mul-le-mul_right L h)
-
-module _ (line : List ℤ) (size at d : ℕ) where
-  -- where it stands before the position, and around the end
-  pub tap-back : d ≤ at → SFits w32 (get_or line (at - d) (pos 0)) → raw w32 (get_or line (at - d) (pos 0)) ≡ ago line size at d
-  tap-back h f = to_z-of_z f ∙ rw (le-leb d at h)
-
-  pub tap_round : at < d → SFits w32 (get_or line (at + size - d) (pos 0)) → raw w32 (get_or line (at + size - d) (pos 0)) ≡ ago line size at d
-  tap_round h f = to_z-of_z f ∙ rw (lt-leb d at h)
-
 -- ---- from the sum to the line's new value
-
-pub sum_in_reach : (r : ℤ) → nat_abs r ≤ 2 ^ 51 → nat_abs (raw w64 r) ≤ 2 ^ 62
-sum_in_reach r h = rw (small_raw r h) (omega arith)
 
 pub low_value_is : (line : List ℤ) (size at L : ℕ) (x s n r : ℤ) → s ≡ line_sum published line size at L x → nat_abs s ≤ 2 ^ 51 →
     n ≡ nearest 100000 (raw w64 s) → r ≡ limit least_place most_place (raw w64 n) → raw w32 r ≡ low_value published line size at L x

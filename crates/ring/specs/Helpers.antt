@@ -17,6 +17,12 @@ pub record Within (p : Prototype) (line : List ℤ) (size at L : ℕ) : Type 0 w
   pub held : size ≤ length line
   pub small : size ≤ 4608
 
+-- where its taps stand, as far as it is known: those up to back·L back before the position, those from round·L back on around the end (none is
+-- known to where `round` is above the last, 18)
+pub record Reach (back round at L : ℕ) : Type 0 where
+  pub inside : back * L ≤ at
+  pub around : round ≤ 18 → at < round * L
+
 -- ---- the low-pass sum over eleven samples
 
 -- c(i)·x(i) at i = 0, 2, 4, 6, 8, 9, 10, 12, 14, 16, 18; the other coefficients are 0

@@ -9,7 +9,7 @@ use whole::products::multiply_add;
 fn pair(a: i32, b: i32) -> i64
     ensures { (result ≡ a +ℤ b) × (nat_abs result ≤ 2 ^ 32) }
 {
-    (a as i64) + (b as i64)
+    i64::from(a) + i64::from(b)
 }
 
 // sum + c·(a + b): two samples of one weight.

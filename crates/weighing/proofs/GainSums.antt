@@ -11,14 +11,13 @@ use lib.Dec.{lit<, lit≤}
 use lib.Signed.{nat_abs-le}
 use mir.Syntax.{w32, w64}
 use mir.Val.{SFits}
-use mir.Facts.{to_z-of_z}
+use mir.Facts.{to_z-of_z, sfits_widen}
 use Rattle.answers.specs.Unit.{least_sample, most_sample, unity}
 use Rattle.whole.specs.Nearest.{nearest}
 use Rattle.whole.specs.Limit.{limit}
 use Rattle.whole.specs.Sum.{sum}
 use Rattle.whole.proofs.Signed.{var, lit, ◌⊕◌, ◌⊖◌, ◌⊗◌, eq_by, about}
 use Rattle.whole.proofs.Magnitude.{abs-+ℤ, abs-*ℤ}
-use Rattle.whole.proofs.Product.{widens}
 use Rattle.whole.proofs.Sums.{sum-ext, sum_none}
 use Rattle.whole.proofs.Limit.{limit24_fits}
 use Rattle.whole.proofs.Rounded.{raw, nearest_fits}
@@ -103,8 +102,11 @@ sum_is g ds matrix n i row rows h sh d top =
 part_small : (d a : ℤ) → nat_abs d ≤ 2 ^ 15 → SFits w32 a → nat_abs (d *ℤ a) ≤ 2 ^ 46
 part_small d a h f = rw (abs-*ℤ d a) (mul-le-mul {n₂ = 2 ^ 15} {m₂ = 2 ^ 31} h (nat_abs-le a f.sfits))
 
+widened : (d : ℤ) → SFits w32 d → raw w64 d ≡ d
+widened d f = to_z-of_z {w = w64} {z = d} (sfits_widen {w = w32} {w' = w64} tt f)
+
 pub weight_room : (d : ℤ) {w : ℤ} → nat_abs d ≤ 2 ^ 15 → SFits w32 d → w ≡ raw w32 d → nat_abs (raw w64 w) ≤ 2 ^ 30
-weight_room d h f e = rw (e, (widens f).answer) (omega arith)
+weight_room d h f e = rw (e, to_z-of_z f, widened d f) (omega arith)
 
 -- terms that are 0 at the end leave a sum as it is
 sum_stays : (n m : ℕ) (f : ℕ → ℤ) → ((j : ℕ) → j < m → f (n + j) ≡ pos 0) → sum (n + m) f ≡ sum n f
@@ -113,10 +115,9 @@ sum_stays n zero f e = ap (λ (k : ℕ). sum k f) (add-zero n)
 sum_stays n (suc m) f e =
     ap (λ (k : ℕ). sum k f) (add-suc n m) ∙ ap₂ ◌+ℤ◌ (sum_stays n m f (λ j h. e j (omega arith))) (e m (omega arith)) ∙ eq_by (var (sum n f) ⊕ lit 0) (var (sum n f)) (omega arith)
 
--- the lines above line b are added; `at` is the place of the next one's sample
-pub record Summing (bands i : ℕ) (matrix ds : List ℤ) (s : ℤ) (b at : ℕ) : Type 0 where
+-- the lines from line b on are added
+pub record Summing (bands i : ℕ) (matrix ds : List ℤ) (s : ℤ) (b : ℕ) : Type 0 where
   pub left : b ≤ bands
-  pub place : at ≡ row_places * (bands - b) + i
   pub so_far : s ≡ gain_sum (bands - b) bands i matrix ds
   pub bounded : nat_abs s ≤ (bands - b) * 2 ^ 46
 
@@ -124,40 +125,37 @@ pub record Summing (bands i : ℕ) (matrix ds : List ℤ) (s : ℤ) (b at : ℕ)
 nothing : (d a : ℤ) → d ≡ pos 0 → d *ℤ a ≡ pos 0
 nothing d a e = rw e (zero-*ℤ a)
 
-pub summing_starts : (bands top i : ℕ) (matrix ds : List ℤ) → top ≤ bands → Above top ds → Summing bands i matrix ds (pos 0) top (row_places * (bands - top) + i)
+pub summing_starts : (bands top i : ℕ) (matrix ds : List ℤ) → top ≤ bands → Above top ds → Summing bands i matrix ds (pos 0) top
 summing_starts bands top i matrix ds few a =
     record {
       left = few;
-      place = omega arith;
       so_far = sym (sum_none (bands - top) (λ k h. nothing (get_or ds (bands - 1 - k) (pos 0)) (get_or matrix (row_places * k + i) (pos 0)) (a.none (bands - 1 - k) (omega arith))));
       bounded = omega arith;
     }
 
-module _ {bands i : ℕ} {matrix ds : List ℤ} {s : ℤ} {b at : ℕ} (k : Summing bands i matrix ds s b at) (few : bands ≤ 10) where
+module _ {bands i : ℕ} {matrix ds : List ℤ} {s : ℤ} {b : ℕ} (k : Summing bands i matrix ds s b) (few : bands ≤ 10) where
   pub sum_room : nat_abs s ≤ 2 ^ 61
   sum_room = omega (arith, k.bounded)
 
-  pub place-within : 0 < b → i < row_places → row_places * bands ≤ length matrix → at < length matrix
-  place-within n h l = omega (arith, k.place, k.left)
-
-  pub summing_on : {w r : ℤ} → 0 < b → Small ds → SFits w32 (get_or ds (b - 1) (pos 0)) → SFits w32 (get_or matrix at (pos 0)) →
-      w ≡ raw w32 (get_or ds (b - 1) (pos 0)) → r ≡ s +ℤ raw w64 w *ℤ raw w32 (get_or matrix at (pos 0)) →
-      Summing bands i matrix ds (raw w64 r) (b - 1) (at + row_places)
+  -- the line below, whose sample stands at `at`
+  pub summing_on : {w r : ℤ} (at c : ℕ) → c + 1 ≡ b → at ≡ row_places * (bands - 1 - c) + i → Small ds → SFits w32 (get_or ds c (pos 0)) → SFits w32 (get_or matrix at (pos 0)) →
+      w ≡ raw w32 (get_or ds c (pos 0)) → r ≡ s +ℤ raw w64 w *ℤ raw w32 (get_or matrix at (pos 0)) → Summing bands i matrix ds (raw w64 r) c
   unfolding sum
-  summing_on {w} {r} some sm fd fx ew er =
-      let d = get_or ds (b - 1) (pos 0) in
+  summing_on {w} {r} at c below place sm fd fx ew er =
+      let d = get_or ds c (pos 0) in
       let x = get_or matrix at (pos 0) in
-      let r-is : r ≡ s +ℤ d *ℤ x = er ∙ ap₂ (λ (u v : ℤ). s +ℤ u *ℤ v) (ap (raw w64) ew ∙ (widens fd).answer) (to_z-of_z fx) in
-      let more : bands - (b - 1) ≡ suc (bands - b) = omega (arith, k.left) in
-      let small : nat_abs r ≤ suc (bands - b) * 2 ^ 46 = rw r-is (omega (arith, abs-+ℤ s (d *ℤ x), part_small d x (sm.range (b - 1)) fx, k.bounded)) in
+      let wide : raw w64 w ≡ d = ap (raw w64) (ew ∙ to_z-of_z fd) ∙ widened d fd in
+      let r-is : r ≡ s +ℤ d *ℤ x = er ∙ ap₂ (λ (u v : ℤ). s +ℤ u *ℤ v) wide (to_z-of_z fx) in
+      let more : bands - c ≡ suc (bands - b) = omega (arith, k.left) in
+      let small : nat_abs r ≤ suc (bands - b) * 2 ^ 46 = rw r-is (omega (arith, abs-+ℤ s (d *ℤ x), part_small d x (sm.range c) fx, k.bounded)) in
       let back : raw w64 r ≡ r = to_z-of_z {w = w64} {z = r} (record { sfits = omega (arith, about r, small) }) in
-      let here : b - 1 ≡ bands - 1 - (bands - b) = omega (arith, k.left) in
+      let here : c ≡ bands - 1 - (bands - b) = omega (arith, k.left) in
+      let there : at ≡ row_places * (bands - b) + i = omega (arith, place, k.left) in
       record {
         left = omega (arith, k.left);
-        place = omega (arith, k.place, k.left);
         so_far =
             back ∙ r-is ∙ ap₂ (λ (u v : ℤ). u +ℤ v *ℤ x) k.so_far (ap (λ (j : ℕ). get_or ds j (pos 0)) here) ∙
-            ap (λ (j : ℕ). gain_sum (bands - b) bands i matrix ds +ℤ get_or ds (bands - 1 - (bands - b)) (pos 0) *ℤ get_or matrix j (pos 0)) k.place ∙
+            ap (λ (j : ℕ). gain_sum (bands - b) bands i matrix ds +ℤ get_or ds (bands - 1 - (bands - b)) (pos 0) *ℤ get_or matrix j (pos 0)) there ∙
             ap (λ (n : ℕ). gain_sum n bands i matrix ds) (sym more);
         bounded = rw (back, more) small;
       }
@@ -182,10 +180,6 @@ unfolding outputs
 outputs_at g [] i h = absurd (omega arith)
 outputs_at g (a ∷ cols) zero h = refl
 outputs_at g (a ∷ cols) (suc i) h = outputs_at g cols i (omega arith)
-
--- what the rounding asks
-pub done_room : {bands i : ℕ} {matrix ds : List ℤ} {s : ℤ} → bands ≤ 10 → SumDone bands i matrix ds s → nat_abs (raw w64 s) ≤ 2 ^ 62
-done_room {s = s} few d = rw (to_z-of_z {w = w64} {z = s} (record { sfits = omega (arith, about s, d.bounded) })) (omega (arith, d.bounded))
 
 -- the output that a sum comes to, in 32 bits
 pub out_back : {bands i : ℕ} {matrix ds : List ℤ} {s n r : ℤ} → bands ≤ 10 → SumDone bands i matrix ds s → n ≡ nearest unity (raw w64 s) → r ≡ limit least_sample most_sample (raw w64 n) →

@@ -1,4 +1,3 @@
 -- The gain differences, and the gain sum by them.
-pub mod Counting
 pub mod Differing
 pub mod GainSums

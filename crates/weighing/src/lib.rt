@@ -1,5 +1,5 @@
 // From the aligned rows of the lines to outputs: gains enter here alone.
 #![tactic(auto)]
 
-pub mod differences;
 pub mod rows;
+pub mod weights;

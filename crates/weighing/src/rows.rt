@@ -2,79 +2,45 @@
 ghost use Rattle.std.specs.Prelude.{◌≤◌, ◌<◌, ◌*◌, ◌≡◌, length};
 ghost use Rattle.tree.specs.Signal.{gain_of};
 ghost use Rattle.lines.specs.Rows.{row_places};
-ghost use Rattle.weighing.specs.Helpers.{Allowed, Small, Above, Below, SumDone, SideWeighed, WeighedUnder};
+ghost use Rattle.weighing.specs.Helpers.{Allowed, SumDone, SideWeighed, WeighedUnder};
 
-use crate::differences::differences;
+use crate::weights::Weights;
+use answers::unit::{LEAST_SAMPLE, MOST_SAMPLE, UNITY};
+use frames::sides::Side;
 use lines::row::ROW;
-use whole::limiting::limit_24;
-use whole::products::{multiply_add, widen};
-use whole::rounding::nearest_4096;
+use whole::limiting::limit;
+use whole::products::multiply_add;
+use whole::rounding::nearest;
 
-// How many of the lowest lines have the difference 0: they add nothing.
-fn lowest(differences: &[i32; 10], top: usize) -> usize
-    requires { top ≤ 10 }
-    ensures { Below result top differences.now }
-{
-    let mut low = 0;
-    while low < top {
-        if differences[low] != 0 {
-            return low;
-        }
-        low += 1;
-    }
-    low
-}
-
-// The gain sum of sample i of the rows: a product for each line that counts, those from `low` on and before `top`. The top line's row comes first; it
-// has no gain above its own, so that its difference is g(M).
-fn sum_at(
-    rows: &[i32],
-    bands: usize,
-    top: usize,
-    low: usize,
-    i: usize,
-    differences: &[i32; 10],
-) -> i64
-    requires { (bands ≤ 10) × (i < row_places) × (row_places * bands ≤ length rows.now) × Small differences.now × (top ≤ bands) × Above top differences.now × Below low top differences.now }
-    ensures { SumDone bands i rows.now differences.now result }
+// The gain sum of sample i of the rows: a product for each line that counts. The top line's row comes first; it has no gain above its own, so that
+// its difference is g(M).
+fn sum_at(weights: &Weights, rows: &[i32], bands: usize, i: usize) -> i64
+    requires { (bands ≤ 10) × (i < row_places) × (row_places * bands ≤ length rows.now) × (weights.now.top ≤ bands) }
+    ensures { SumDone bands i rows.now weights.now.differences result }
 {
     let mut sum = 0;
-    let mut b = top;
-    let mut at = ROW * (bands - top) + i;
-    while low < b {
-        b -= 1;
-        sum = multiply_add(sum, widen(differences[b]), rows[at]);
-        at += ROW;
+    for b in (weights.low..weights.top).rev() {
+        let sample = rows[ROW * (bands - 1 - b) + i];
+        sum = multiply_add(sum, i64::from(weights.differences[b]), sample);
     }
     sum
 }
 
-// An output for each of the n samples of the rows, put in the output's frames as side s. Only the lines from `low` on and before `top` count.
+// An output for each of the n samples of the rows, put in the output's frames on the side.
 pub fn weigh_rows(
+    weights: &Weights,
     rows: &[i32],
     bands: usize,
-    top: usize,
-    low: usize,
-    differences: &[i32; 10],
-    channels: usize,
-    s: usize,
+    side: Side,
     n: usize,
     output: &mut [i32],
 )
-    requires { (1 ≤ bands) × (bands ≤ 10) × (n ≤ row_places) × (row_places * bands ≤ length rows.now) × Small differences.now × (top ≤ bands) × Above top differences.now × Below low top differences.now × (s < channels) × (length output.old ≡ channels * n) }
-    ensures { SideWeighed channels s n bands rows.now differences.now output.old output.new }
+    requires { (1 ≤ bands) × (bands ≤ 10) × (n ≤ row_places) × (row_places * bands ≤ length rows.now) × (weights.now.top ≤ bands) × (length output.old ≡ side.channels * n) }
+    ensures { SideWeighed side.channels side.s n bands rows.now weights.now.differences output.old output.new }
 {
-    let mut i = 0;
-    while i < n {
-        output[channels * i + s] = limit_24(nearest_4096(sum_at(
-            rows,
-            bands,
-            top,
-            low,
-            i,
-            differences,
-        )));
-        i += 1;
+    for i in 0..n {
+        let rounded = nearest::<UNITY>(sum_at(weights, rows, bands, i));
+        output[side.channels * i + side.s] = limit::<LEAST_SAMPLE, MOST_SAMPLE>(rounded);
     }
 }
 
@@ -83,25 +49,13 @@ pub fn weigh_with(
     gains: &[i32],
     rows: &[i32],
     bands: usize,
-    channels: usize,
-    s: usize,
+    side: Side,
     n: usize,
     output: &mut [i32],
 )
-    requires { Allowed bands gains.now × (1 ≤ bands) × (bands ≤ 10) × (n ≤ row_places) × (row_places * bands ≤ length rows.now) × (s < channels) × (length output.old ≡ channels * n) }
-    ensures { WeighedUnder channels s n bands (gain_of gains.now) rows.now output.old output.new }
+    requires { Allowed bands gains.now × (1 ≤ bands) × (bands ≤ 10) × (n ≤ row_places) × (row_places * bands ≤ length rows.now) × (length output.old ≡ side.channels * n) }
+    ensures { WeighedUnder side.channels side.s n bands (gain_of gains.now) rows.now output.old output.new }
 {
-    let weights = differences(gains);
-    let low = lowest(&weights, gains.len());
-    weigh_rows(
-        rows,
-        bands,
-        gains.len(),
-        low,
-        &weights,
-        channels,
-        s,
-        n,
-        output,
-    );
+    let weights = Weights::of(gains).from_lowest();
+    weigh_rows(&weights, rows, bands, side, n, output);
 }

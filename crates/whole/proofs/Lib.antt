@@ -7,6 +7,4 @@ pub mod Sums
 pub mod Nearest
 pub mod Limit
 pub mod Rounded
-pub mod Limited
 pub mod Product
-pub mod Clearing

@@ -5,9 +5,5 @@ ghost use Rattle.std.specs.Prelude.{◌≡◌, length, replicate, pos};
 pub fn clear(s: &mut [i32])
     ensures { s.new ≡ replicate (length s.old) (pos 0) }
 {
-    let mut i = 0;
-    while i < s.len() {
-        s[i] = 0;
-        i += 1;
-    }
+    s.fill(0);
 }

@@ -1,14 +1,12 @@
-use Rattle.std.proofs.Common.{arith}
-use Rattle.answers.proofs.Ranges.{stops, goes_on, ends}
+use Rattle.std.proofs.Common.{rules, not, tests}
+use Rattle.std.proofs.lemmas.Iterator.{YieldsList-from_slice}
+use Rattle.std.proofs.lemmas.Iterator.Search.{position_from_yields_List}
+use Rattle.answers.specs.Range.{within}
+use Rattle.answers.proofs.Firsts.{found_first}
 use Rattle.answers.proofs.range.first_outside.Goals as goal
 
-pub returns-then-not-within : goal.returns-then-not-within
-returns-then-not-within c =
-    stops c.args.s.now c.loop-i.i c.ranges.lo c.ranges.hi c.loop-i.invariant.1 c.loop-i-test.true (omega arith) c.within.ensures c.if-not-within.true
-
-pub loop-i-preserved : goal.loop-i-preserved
-loop-i-preserved c =
-    (omega arith, goes_on c.args.s.now c.loop-i.i c.ranges.lo c.ranges.hi c.loop-i.invariant.1 c.loop-i-test.true (omega arith) c.within.ensures c.if-not-within.false)
-
 pub returns : goal.returns
-returns c = ends c.args.s.now c.loop-i.i c.ranges.lo c.ranges.hi c.loop-i.invariant.1 c.loop-i-test.false
+returns c =
+    let a = c.args in
+    let at = position_from_yields_List (λ z. not (within a.lo a.hi z)) _ _ c.position.result c.position.ensures.ran (YieldsList-from_slice a.s.now cc) (λ x b q k. search (rules, tests)) in
+    found_first (within a.lo a.hi) a.s.now at c.unwrap_or.ensures

@@ -4,7 +4,7 @@ use Rattle.block_sides.proofs.BothSides.{with_output, right_lent, one_side, two_
 use Rattle.block_sides.proofs.run.each_side.Goals as goal
 
 pub returns-then-channels-eq2 : goal.returns-then-channels-eq2
-returns-then-channels-eq2 c =
+returns-then-channels-eq2 g c =
     let a = c.args in
     let q = c.requires in
     let left = c.each_row-at in
@@ -19,7 +19,7 @@ returns-then-channels-eq2 c =
     }
 
 pub returns-else-channels-eq2 : goal.returns-else-channels-eq2
-returns-else-channels-eq2 c =
+returns-else-channels-eq2 g c =
     let a = c.args in
     let q = c.requires in
     let left = c.each_row-at in

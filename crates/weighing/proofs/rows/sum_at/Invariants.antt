@@ -1,9 +1,6 @@
--- The lines above line b are added.
+-- The lines from line b on are added.
 use Rattle.weighing.proofs.GainSums.{Summing}
 use Rattle.weighing.proofs.rows.sum_at.Given as goal
 
 abbrev pub invariant-loop-b : goal.invariant-loop-b
-invariant-loop-b l = Summing l.bands l.i l.rows l.differences l.sum l.b l.at
-
-abbrev pub decreases-loop-b : goal.decreases-loop-b
-decreases-loop-b l = l.b
+invariant-loop-b l = Summing l.bands l.i l.rows l.weights.differences l.sum l.b

@@ -10,18 +10,21 @@ use Rattle.weighing.proofs.rows.weigh_rows.Goals as goal
 pub loop-i-preserved : goal.loop-i-preserved
 loop-i-preserved c =
     let a = c.args in
-    putting_on a.channels a.s (λ j. out_of (gain_sum a.bands a.bands j a.rows.now a.differences.now)) a.output.now c.loop-i.invariant c.requires.8 a.n _ c.loop-i-test.true c.requires.9
-    (out_back c.requires.1 c.sum_at.ensures c.nearest_4096.ensures c.limit_24.ensures)
+    let to = a.side in
+    putting_on to.channels to.s (λ j. out_of (gain_sum a.bands a.bands j a.rows.now a.weights.now.differences)) a.output.now c.loop-i.invariant to.there a.n _ c.loop-i-test.true c.requires.5
+    (out_back c.requires.1 c.sum_at.ensures c.nearest-rounded.ensures c.limit.ensures)
 
 pub returns : goal.returns
 returns c =
     let a = c.args in
+    let to = a.side in
     let l = c.loop-i in
-    let f : ℕ → ℤ = λ j. out_of (gain_sum a.bands a.bands j a.rows.now a.differences.now) in
-    let outs = side a.channels a.s a.n l.output in
+    let ds = a.weights.now.differences in
+    let f : ℕ → ℤ = λ j. out_of (gain_sum a.bands a.bands j a.rows.now ds) in
+    let outs = side to.channels to.s a.n l.output in
     record {
       weighed =
-          outputs_weighed a.bands a.rows.now a.differences.now outs c.requires.0
-          (λ j h. put_here a.channels a.s f a.output.now l.invariant c.requires.8 a.n j c.loop-i-test.false (omega (arith, side-length a.channels a.s a.n l.output)));
-      others = λ t h q. put_others a.channels a.s f a.output.now l.invariant c.requires.8 a.n t h q;
+          outputs_weighed a.bands a.rows.now ds outs c.requires.0
+          (λ j h. put_here to.channels to.s f a.output.now l.invariant to.there a.n j c.loop-i-test.false (omega (arith, side-length to.channels to.s a.n l.output)));
+      others = λ t h q. put_others to.channels to.s f a.output.now l.invariant to.there a.n t h q;
     }
