@@ -9,6 +9,7 @@ use borrow.Author.Tests.{eq-eqb}
 use lib.ListN.{length, take, drop, replicate, length-take, length-drop, length-append, drop_of_length-le, take-append-drop}
 use lib.Seq.{take-nil, take_at, drop_at, take-take, length-take-le}
 use lib.IntN.{ℤ, pos}
+use Rattle.std.proofs.lemmas.List.{drop-take}
 use Rattle.std.specs.Prelude.{Result, Ok, Err, is_ok}
 use borrow.Rule.Slice.PartMut.{put_mid}
 use Rattle.answers.specs.Checks.{check, Outcome, Done, decide}
@@ -17,18 +18,13 @@ use Rattle.samples.specs.Samples.{samples_of, pieces_of, first_bad, all_samples,
 use Rattle.samples.specs.Format.{size_of}
 use Rattle.samples.specs.Sample.{is_sample_in, sample_in}
 use Rattle.samples.specs.declared.format.Format.{Format}
-use Rattle.samples.specs.declared.block.Taken.{Taken}
-use Rattle.samples.specs.declared.block.Taken.TheVariants.{Samples, NotNumber}
+use Rattle.samples.specs.declared.block.TakeError.{TakeError}
+use Rattle.samples.specs.declared.block.TakeError.TheVariants.{NotNumber}
 use Rattle.eqfile.specs.declared.refusal.Refusal.{Refusal}
 use Rattle.eqfile.specs.declared.refusal.Refusal.TheVariants as refusal
 use Rattle.samples.proofs.Taking.{length-samples}
 use Rattle.eqfile.specs.Data.{there_of, samples_from, numbers_from, taken_from}
 use Rattle.eqfile.proofs.Turns.{few_bytes}
-
-drop-take : {A : Type 0} (m n : ℕ) (l : List A) → drop m (take (m + n) l) ≡ take n (drop m l)
-drop-take zero n l = ap (λ (k : ℕ). take k l) (zero-add n)
-drop-take (suc m) n [] = ap (drop (suc m)) (take-nil (suc m + n)) ∙ sym (take-nil n)
-drop-take (suc m) n (x ∷ l) = ap (λ (k : ℕ). drop (suc m) (take k (x ∷ l))) (suc-add m n) ∙ drop-take m n l
 
 -- n samples are in the first n·size bytes
 pub samples_in_front : (n : ℕ) (format : Format) (s : List ℕ) → samples_of n format (take (n * size_of format) s) ≡ samples_of n format s
@@ -49,10 +45,6 @@ pieces_in_front (suc n) size s =
     let e : suc n * size ≡ size + n * size = suc-mul n size ∙ add_comm (n * size) size in
     ap₂ ◌∷◌ (take-take size (suc n * size) s (omega arith))
     (ap (pieces_of n size) (ap (λ (k : ℕ). drop size (take k s)) e ∙ drop-take size (n * size) s) ∙ pieces_in_front n size (drop size s))
-
--- an answer of samples is no other
-clash : {n i : ℕ} → Samples n ≡ NotNumber i → ⊥
-clash e = let z : ◌≡◌ {A = ℕ} 0 1 = cc in omega arith
 
 module _ (format : Format) (s : List ℕ) (samples : List ℤ) (size k : ℕ) (is : size ≡ size_of format) (here : k ≡ min (length s / size) (length samples)) where
   some : 0 < size
@@ -84,9 +76,9 @@ module _ (format : Format) (s : List ℕ) (samples : List ℤ) (size k : ℕ) (i
   numbers_are = ap (λ (j : ℕ). all_samples j format s) there_is
 
   -- the codec's answer where they all are, and where not
-  abbrev outcome : Bool → Outcome Taken (List ℤ)
-  outcome true = record { result = Samples k; lent = samples_of k format s }
-  outcome false = record { result = NotNumber (first_bad k format s); lent = take k samples }
+  abbrev outcome : Bool → Outcome (Result ℕ TakeError) (List ℤ)
+  outcome true = record { result = Ok k; lent = samples_of k format s }
+  outcome false = record { result = Err (NotNumber (first_bad k format s)); lent = take k samples }
 
   -- the codec judges them alone, and takes them if all are samples
   decided : block_from (take (k * size) s) format (take k samples) ≡ outcome good
@@ -111,28 +103,24 @@ module _ (format : Format) (s : List ℕ) (samples : List ℤ) (size k : ℕ) (i
       pick true = refl
       pick false = refl
 
-  module _ (r : Taken) (last : List ℤ) (d : Done (block_from (take (k * size) s) format (take k samples)) r last) where
-    -- it answered their number: all are samples
-    pub taken_yes : (n : ℕ) → r ≡ Samples n → (good ≡ true) × (last ≡ samples_of k format s)
-    taken_yes n e = by good refl (d.result_is ∙ ap (λ (o : Outcome Taken (List ℤ)). o.result) decided) (d.lent_is ∙ ap (λ (o : Outcome Taken (List ℤ)). o.lent) decided)
+  module _ {r : Result ℕ TakeError} {last : List ℤ} (d : Done (block_from (take (k * size) s) format (take k samples)) r last) where
+    judged : is_ok r ≡ good
+    judged = ap is_ok d.result_is ∙ ap (λ (o : Outcome (Result ℕ TakeError) (List ℤ)). is_ok o.result) decided ∙ by good
       where
-        by : (b : Bool) → good ≡ b →
-            r ≡ (outcome b).result →
-            last ≡ (outcome b).lent →
-            (good ≡ true) × (last ≡ samples_of k format s)
-        by true g p q = (g, q)
-        by false g p q = absurd (clash (sym e ∙ p))
+        by : (b : Bool) → is_ok (outcome b).result ≡ b
+        by true = refl
+        by false = refl
 
-    -- it answered anything else: one is none, and nothing was changed
-    pub taken_no : ((n : ℕ) → r ≡ Samples n → ⊥) → (good ≡ false) × (last ≡ take k samples)
-    taken_no other = by good refl (d.result_is ∙ ap (λ (o : Outcome Taken (List ℤ)). o.result) decided) (d.lent_is ∙ ap (λ (o : Outcome Taken (List ℤ)). o.lent) decided)
-      where
-        by : (b : Bool) → good ≡ b →
-            r ≡ (outcome b).result →
-            last ≡ (outcome b).lent →
-            (good ≡ false) × (last ≡ take k samples)
-        by false g p q = (g, q)
-        by true g p q = absurd (other k p)
+    left : last ≡ (outcome (is_ok r)).lent
+    left = d.lent_is ∙ ap (λ (o : Outcome (Result ℕ TakeError) (List ℤ)). o.lent) decided ∙ ap (λ (b : Bool). (outcome b).lent) (sym judged)
+
+    -- it accepted: all are samples
+    pub taken_yes : is_ok r ≡ true → (good ≡ true) × (last ≡ samples_of k format s)
+    taken_yes e = (sym judged ∙ e, left ∙ ap (λ (b : Bool). (outcome b).lent) e)
+
+    -- it refused: one is none, and nothing was changed
+    pub taken_no : is_ok r ≡ false → (good ≡ false) × (last ≡ take k samples)
+    taken_no e = (sym judged ∙ e, left ∙ ap (λ (b : Bool). (outcome b).lent) e)
 
   -- a part put back as it was
   pub not_taken : (last : List ℤ) → good ≡ false → last ≡ take k samples → Done (taken_from s format samples) (Err refusal.NotNumber) (last ++ drop k samples)

@@ -6,14 +6,14 @@ ghost use Rattle.wave_values.specs.Values.{frame_size};
 ghost use Rattle.eqfile.specs.Turn.{fed_in_all, short_of};
 
 use chunks::place::padding;
-use samples::{Channels, Format, channel_count};
+use samples::{Channels, Format};
 use wave_values::frame_size;
 
 // The delay of eight bands: frame n that is written is output n + LATE.
 pub(crate) const LATE: usize = 1143;
 
 // `frames` frames of a format in one or two channels, whose bytes begin at `start` of the front.
-#[derive(Clone, Copy)]
+#[derive(Clone, Copy, Debug, PartialEq, Eq)]
 pub struct Plan {
     pub rate: u32,
     pub format: Format,
@@ -42,6 +42,6 @@ impl Plan {
     pub fn pad_after(self) -> usize
         ensures { result ≡ padding (3 * (count_of self.channels * self.frames)) }
     {
-        padding(3 * (channel_count(self.channels) as usize * self.frames as usize))
+        padding(3 * (self.channels.count() as usize * self.frames as usize))
     }
 }

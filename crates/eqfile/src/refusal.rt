@@ -6,7 +6,7 @@ ghost use Rattle.eqfile.specs.declared.refusal.Refusal.TheVariants.{Header};
 
 use answers::refused::{Numbered, Refused};
 
-#[derive(Clone, Copy)]
+#[derive(Clone, Copy, Debug, PartialEq, Eq)]
 pub enum Refusal {
     // 30
     Arguments,
@@ -34,7 +34,7 @@ impl Numbered for Refusal {
     fn refused(self) -> Refused {
         match self {
             Refusal::Arguments => Refused::plain(30),
-            Refusal::Header(header) => Refused::plain(wave::number(header)),
+            Refusal::Header(header) => header.refused(),
             Refusal::TooLong => Refused::plain(26),
             Refusal::NotNumber => Refused::plain(41),
         }

@@ -6,7 +6,6 @@ ghost use Rattle.eqfile.specs.Turn.{all_read, wanted_of, turn_of};
 
 use crate::plan::{LATE, Plan};
 use answers::unit::TURN_LIMIT;
-use samples::channel_count;
 use wave_values::frame_size;
 
 // A turn of the run, one block: how many frames are fed, how many bytes are to be read for them, how many of their outputs are dropped, and how many bytes
@@ -43,7 +42,7 @@ impl Plan {
     pub fn next_turn(self, at: usize, read: usize) -> Turn
         ensures { result ≡ turn_of (count_of self.channels) (frame_size (count_of self.channels) self.format) self.frames at read }
     {
-        let count = channel_count(self.channels) as usize;
+        let count = self.channels.count() as usize;
         let fed = TURN_LIMIT.min(self.fed_in_all().saturating_sub(at));
         let skipped = fed.min(LATE.saturating_sub(at));
         Turn {

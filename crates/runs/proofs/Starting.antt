@@ -16,7 +16,8 @@ use Rattle.wave_writer.specs.Header.{header, write_of}
 use Rattle.samples.specs.Channels.{count_of}
 use Rattle.samples.specs.declared.channels.Channels.{Channels}
 use Rattle.wave_values.specs.Values.{known_rate}
-use Rattle.wave.specs.Walk.{Found, read_of}
+use Rattle.wave.specs.declared.found.Found.{Found}
+use Rattle.wave.specs.Walk.{read_of}
 use Rattle.samples.specs.declared.format.Format.{Format}
 use Rattle.wave_writer.specs.declared.writer.Written.TheVariants.{Header}
 use Rattle.wave.proofs.Answers.{accepted_rate, accepted_whole, accepted_start}
