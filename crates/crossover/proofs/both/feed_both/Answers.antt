@@ -1,5 +1,5 @@
 -- What is lent to the pass are each feed's gains.
-use Rattle.std.proofs.Common.{◌≡◌, ◌∙◌, ◌≤◌, sym, ap, ℕ, List, length, take, ℤ, arith}
+use Rattle.std.proofs.Common.{◌≡◌, ◌∙◌, ◌≤◌, ap, ℕ, List, length, take, ℤ, arith}
 use lib.Seq.{length-take-le}
 use Rattle.octave.specs.Counts.{Counts}
 use Rattle.octave.specs.Helpers.{KeptCounts}
@@ -13,15 +13,6 @@ use Rattle.crossover.proofs.both.feed_both.Goals as goal
 -- as many of the horn's gains as there are bands
 high-long : {m : List ℤ} {k : Counts} → KeptCounts k m → (gains r : List ℤ) (s : ℕ) → length gains ≡ k.bands → FromOn s gains r → length (take (length gains) r) ≡ length gains
 high-long k gains r s counted f = ap length (high_are gains r (omega (arith, counts_few k)) s f) ∙ gains-length 1 (goes horn s) gains
-
-pub from_on-high-requires : goal.from_on-high-requires
-from_on-high-requires c = (omega arith, omega (arith, counts_few c.requires.memory_kept))
-
-pub slice_bounds-high-end : goal.slice_bounds-high-end
-slice_bounds-high-end c = omega (arith, counts_few c.requires.memory_kept)
-
-pub slice_bounds-pass-end-2 : goal.slice_bounds-pass-end-2
-slice_bounds-pass-end-2 c = sym (high-long c.requires.memory_kept c.args.gains.now c.from_on-high.result c.args.s c.requires.counted c.from_on-high.ensures)
 
 pub pass-requires : goal.pass-requires
 pass-requires c =
