@@ -14,10 +14,13 @@ use Rattle.answers.specs.Checks.{Outcome, decide, Done}
 use Rattle.answers.specs.Unit.{largest_data}
 use Rattle.samples.specs.Channels.{count_of}
 use Rattle.samples.specs.declared.channels.Channels.{Channels}
-use Rattle.octave.specs.declared.memory.Prepared.{Prepared}
+use Rattle.std.specs.Prelude.{Result, Ok, is_ok, IsOk}
+use Rattle.tree.specs.Prototype.{published}
+use Rattle.tree.specs.Tree.{delay}
+use Rattle.octave.specs.declared.memory.PrepareError.{PrepareError}
 use Rattle.octave.specs.Memory.{side_places, memory_length, prepared, prepare_of}
 use Rattle.wave_writer.specs.Header.{header, write_of}
-use Rattle.wave_writer.specs.declared.writer.Written.{Written}
+use Rattle.wave_writer.specs.declared.writer.WriteError.{WriteError}
 use Rattle.wave_writer.proofs.Counts.{count_allowed_lem}
 use Rattle.arguments.specs.Arguments.{bands}
 use Rattle.eqfile.proofs.Turns.{few_channels}
@@ -36,11 +39,17 @@ signed channels {n} e = to_z_pos w32 (omega (arith, few_channels channels)) ∙ 
 
 -- the writer's answer for a run that has started is its header, told the channels as a signed number
 module _ {plan : Plan} {gains : List ℤ} {front : List ℕ} (s : HasStarted plan gains front) {n : ℕ} (sides : n ≡ count_of plan.channels) where
-  pub header_is : (buffer : List ℕ) {r : Written} {after : List ℕ} → length buffer ≡ 44 → Done (write_of buffer plan.rate (3 * (n * plan.frames)) (to_z w32 n)) r after →
-      after ≡ header plan.rate (3 * (count_of plan.channels * plan.frames)) (count_of plan.channels)
-  header_is buffer l d =
-      d.lent_is ∙ ap₂ (λ (k : ℕ) (z : ℤ). (write_of buffer plan.rate (3 * (k * plan.frames)) z).lent) sides (signed plan.channels sides) ∙
-      ap (λ (o : Outcome Written (List ℕ)). o.lent) (header_accepted s buffer l)
+  written_is : (buffer : List ℕ) → length buffer ≡ 44 →
+      write_of buffer plan.rate (3 * (n * plan.frames)) (to_z w32 n) ≡
+      record { result = Ok 44; lent = header plan.rate (3 * (count_of plan.channels * plan.frames)) (count_of plan.channels) }
+  written_is buffer l = ap₂ (λ (k : ℕ) (z : ℤ). write_of buffer plan.rate (3 * (k * plan.frames)) z) sides (signed plan.channels sides) ∙ header_accepted s buffer l
+
+  module _ (buffer : List ℕ) (long : length buffer ≡ 44) {r : Result ℕ WriteError} {after : List ℕ} (d : Done (write_of buffer plan.rate (3 * (n * plan.frames)) (to_z w32 n)) r after) where
+    pub header_taken : IsOk r
+    header_taken = ap is_ok (d.result_is ∙ ap (λ (o : Outcome (Result ℕ WriteError) (List ℕ)). o.result) (written_is buffer long))
+
+    pub header_is : after ≡ header plan.rate (3 * (count_of plan.channels * plan.frames)) (count_of plan.channels)
+    header_is = d.lent_is ∙ ap (λ (o : Outcome (Result ℕ WriteError) (List ℕ)). o.lent) (written_is buffer long)
 
   pub few_samples : 3 * (n * plan.frames) ≤ largest_data
   few_samples = rw sides (few_enough s)
@@ -52,16 +61,23 @@ module _ (channels : Channels) {places : ℕ} (counted : places ≡ memory_lengt
   pub part_fits : places ≤ memory_length bands 2
   part_fits = omega (arith, few_channels channels)
 
-  module _ {n : ℕ} {r : Prepared} {m : List ℤ} (sides : n ≡ count_of channels)
+  module _ {n : ℕ} {r : Result ℕ PrepareError} {m : List ℤ} (sides : n ≡ count_of channels)
       (d : Done (prepare_of (pos bands) (to_z w32 n) (take places (replicate (memory_length bands 2) (pos 0)))) r m) where
-    prepared_is : m ≡ prepared bands (count_of channels)
+    accepted_is : prepare_of (pos bands) (to_z w32 n) (take places (replicate (memory_length bands 2) (pos 0))) ≡
+        record { result = Ok (delay published bands); lent = prepared bands (count_of channels) }
     unfolding decide
-    prepared_is =
+    accepted_is =
         let cleared : List ℤ = replicate (memory_length bands 2) (pos 0) in
         let long : length (take places cleared) ≡ memory_length bands (count_of channels) =
         length-take-le places cleared (omega (arith, part_fits, length-replicate (memory_length bands 2) (pos 0))) ∙ counted in
-        d.lent_is ∙ ap (λ (z : ℤ). (prepare_of (pos bands) z (take places cleared)).lent) (signed channels sides) ∙
+        ap (λ (z : ℤ). prepare_of (pos bands) z (take places cleared)) (signed channels sides) ∙
         rw (count_allowed_lem channels, eq-eqb (length (take places cleared)) (memory_length bands (count_of channels)) long)
+
+    pub memory_taken : IsOk r
+    memory_taken = ap is_ok (d.result_is ∙ ap (λ (o : Outcome (Result ℕ PrepareError) (List ℤ)). o.result) accepted_is)
+
+    prepared_is : m ≡ prepared bands (count_of channels)
+    prepared_is = d.lent_is ∙ ap (λ (o : Outcome (Result ℕ PrepareError) (List ℤ)). o.lent) accepted_is
 
     as_long : length m ≡ places
     as_long = ap length prepared_is ∙ omega (arith, length-replicate {A = ℤ} (count_of channels * side_places bands) (pos 0))

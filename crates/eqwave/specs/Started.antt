@@ -1,7 +1,6 @@
 -- How the program begins: nothing is known of the bytes that standard input hands over, so there are some.
-use Rattle.std.specs.Prelude.{List, ℕ, ◌≤◌, length, replicate, ℤ, pos, Result, Ok, Err}
+use Rattle.std.specs.Prelude.{List, ℕ, ◌≤◌, length, replicate, ℤ, pos, Option, Result, Ok, Err}
 use Rattle.answers.specs.Unit.{front_length}
-use Rattle.arguments.specs.declared.taking.Arguments.{Arguments}
 use Rattle.arguments.specs.Arguments.{bands}
 use Rattle.eqfile.specs.declared.plan.Plan.{Plan}
 use Rattle.turning.specs.declared.turn.Stop.{Stop}
@@ -10,7 +9,7 @@ use Rattle.turning.specs.Running.{Stopped, Ended}
 use Rattle.arguments.specs.Given.{AllTaken}
 
 -- rule 10.5: what is known before the front is judged
-pub record Before (arguments : Arguments) (front : List ℕ) (gains : List ℤ) : Type 0 where
+pub record Before (arguments : Option ℕ) (front : List ℕ) (gains : List ℤ) : Type 0 where
   pub all_taken : AllTaken (replicate bands (pos 0)) arguments gains
   pub few : length front ≤ front_length
 

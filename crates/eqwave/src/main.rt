@@ -4,7 +4,6 @@
 ghost use Rattle.eqwave.specs.Started.{Before};
 
 use answers::unit::FRONT_LENGTH;
-use arguments::Arguments;
 use std::io::Read;
 use turning::place::Run;
 
@@ -25,7 +24,7 @@ fn main(rt: HostRuntime) {
 fn begin(
     rt: &(impl Print + Eprint),
     stdin: &mut impl Read,
-    arguments: Arguments,
+    arguments: Option<usize>,
     front: &[u8],
     gains: &[i32],
 )

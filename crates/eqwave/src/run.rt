@@ -4,7 +4,6 @@ ghost use Rattle.eqwave.specs.Started.{Comes};
 
 use crate::say;
 use eqfile::Refusal;
-use samples::channel_count;
 use std::io;
 use std::io::Read;
 use turning::buffers::{PLACES, places};
@@ -39,8 +38,9 @@ fn put_header(rt: &impl Print, run: Run) -> io::Result<()>
     let mut header = [0u8; 44];
     let rate = run.plan.rate;
     let frames = run.plan.frames;
-    let sides = channel_count(run.plan.channels);
-    wave_writer::write(&mut header, rate, 3 * (sides * frames), sides as i32);
+    let sides = run.plan.channels.count();
+    // the writer takes what a run that has started states
+    wave_writer::write(&mut header, rate, 3 * (sides * frames), sides as i32).unwrap();
     output::hand_header(rt, &header, run.plan)
 }
 
@@ -79,8 +79,8 @@ fn put_file(rt: &impl Print, stdin: &mut impl Read, run: Run) -> Result<usize, S
     put_header(rt, run)?;
     let mut memory = [0; PLACES];
     let places = places(run.plan.channels);
-    let sides = channel_count(run.plan.channels);
-    octave::memory::prepare(BANDS, sides as i32, &mut memory[..places]);
+    let sides = run.plan.channels.count();
+    octave::memory::prepare(BANDS, sides as i32, &mut memory[..places]).unwrap();
     let read = turns(rt, stdin, run, &mut memory[..places])?;
     put_pad(rt, run, read)?;
     Ok(read)

@@ -8,7 +8,7 @@ use native.Mathlib.Omega.{arith}
 use borrow.Author.Tests.{eq-eqb, le-leb, le-ltb}
 use lib.ListN.{length, drop, replicate, length-replicate}
 use lib.IntN.{ℤ, pos}
-use Rattle.std.specs.Prelude.{Some}
+use Rattle.std.specs.Prelude.{Some, Result, Ok}
 use Rattle.answers.specs.Checks.{all_hold, Outcome}
 use Rattle.answers.specs.Range.{all_within}
 use Rattle.answers.specs.Unit.{block_limit, turn_room, largest_gain}
@@ -17,8 +17,7 @@ use Rattle.lines.specs.Cascade.{Ran, run}
 use Rattle.lines.proofs.Lengths.{run_places}
 use Rattle.frames.specs.Frames.{side_of, behind, places_of}
 use Rattle.frames.proofs.Laws.{behind-length, places_length}
-use Rattle.octave.specs.declared.block.Blocked.{Blocked}
-use Rattle.octave.specs.declared.block.Blocked.TheVariants.{Written}
+use Rattle.octave.specs.declared.block.BlockError.{BlockError}
 use Rattle.octave.specs.Memory.{line_length, side_places, memory_of, prepared, accepts}
 use Rattle.octave.specs.Block.{frames_of, block_checks, equalised}
 use Rattle.octave.proofs.Memories.{accepts_is}
@@ -94,7 +93,7 @@ module _ (channels : Channels) where
 
   -- what a block of the program comes to
   pub record BlockTaken (m gains input : List ℤ) (skipped : ℕ) (stored : List ℕ) : Type 0 where
-    pub accepts : (block_for m gains input).result ≡ Written (frames_of m input)
+    pub accepts : (block_for m gains input).result ≡ Ok (frames_of m input)
     pub long : length (block_for m gains input).lent.1 ≡ length input
     pub ready : Ready channels (block_for m gains input).lent.0
     pub is : equalise_of m gains input skipped stored ≡
@@ -106,8 +105,8 @@ module _ (channels : Channels) where
       let held = checks_hold m gains input (zeros input) s g (length-replicate (length input) (pos 0)) framed (omega arith) range in
       let ran = held_ran m gains input (zeros input) held in
       record {
-        accepts = ap (λ (b : Outcome Blocked (List ℤ × List ℤ)). b.result) ran;
-        long = ap (λ (b : Outcome Blocked (List ℤ × List ℤ)). length b.lent.1) ran ∙ equalised_long m gains input (held_whole m gains input (zeros input) held);
-        ready = subst (λ (b : Outcome Blocked (List ℤ × List ℤ)). Ready channels b.lent.0) (sym ran) (still_ready m gains input s);
+        accepts = ap (λ (b : Outcome (Result ℕ BlockError) (List ℤ × List ℤ)). b.result) ran;
+        long = ap (λ (b : Outcome (Result ℕ BlockError) (List ℤ × List ℤ)). length b.lent.1) ran ∙ equalised_long m gains input (held_whole m gains input (zeros input) held);
+        ready = subst (λ (b : Outcome (Result ℕ BlockError) (List ℤ × List ℤ)). Ready channels b.lent.0) (sym ran) (still_ready m gains input s);
         is = equalised_is m gains input skipped stored (record { short = short; within = within; fit = fits }) held;
       }

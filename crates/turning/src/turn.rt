@@ -8,7 +8,6 @@ use crate::place::{Place, Run};
 use crate::{input, output};
 use answers::unit::TURN_ROOM;
 use eqfile::Turn;
-use samples::channel_count;
 use std::io;
 use std::io::Read;
 
@@ -43,7 +42,7 @@ fn put(
 {
     let mut input = [0; TURN_ROOM];
     let mut stored = [0; BYTES];
-    let sides = channel_count(run.plan.channels) as usize;
+    let sides = run.plan.channels.count() as usize;
     let fed = sides * turn.fed;
     let skipped = sides * turn.skipped;
     let written = turn.written;
