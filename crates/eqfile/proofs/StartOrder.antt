@@ -3,9 +3,9 @@ use mathlib.Core.Path.{◌≡◌, refl, sym, ap, ◌∙◌}
 use mathlib.Core.Bool.{Bool, true, false, cond, true≢false}
 use lib.Dec.{eqb, ltb}
 use mathlib.Core.List.{List}
-use Prim.Native.Nat.{ℕ, ◌*◌, ◌/◌, ◌≤◌, ◌<◌}
+use Prim.Native.Nat.{ℕ, ◌*◌, ◌/◌, ◌≤◌}
 use native.Mathlib.Omega.{arith}
-use borrow.Author.Tests.{lt-ltb, le-ltb, ltb-false, eq-eqb, ne_eqb}
+use borrow.Author.Tests.{le-ltb, ltb-false, eq-eqb, ne_eqb}
 use Rattle.std.specs.Prelude.{Option, Some, None, Result, Ok, Err, IsErrAnd, not}
 use Rattle.std.specs.Option.{option_eq}
 use Rattle.wave.specs.Walk as wave
@@ -19,7 +19,6 @@ use Rattle.samples.specs.declared.channels.Channels.{Channels}
 use Rattle.samples.specs.declared.channels.Channels.TheVariants.{One, Two}
 use Rattle.wave.specs.declared.found.Found.{Found}
 use Rattle.wave.specs.Walk.{read_of}
-use Rattle.samples.specs.declared.format.Format.{Format}
 use Rattle.wave_values.specs.Values.{frame_size}
 use Rattle.arguments.specs.Arguments.{bands}
 use Rattle.eqfile.specs.declared.plan.Plan.{Plan}

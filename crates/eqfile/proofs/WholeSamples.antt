@@ -3,11 +3,11 @@ use mathlib.Core.Path.{◌≡◌, refl, sym, ap, ap₂, ◌∙◌}
 use mathlib.Core.Bool.{Bool, true, false, cond}
 use mathlib.Core.List.{List, [], ◌∷◌, ◌++◌, append-nil}
 use Prim.Native.Nat.{ℕ, zero, suc, ◌+◌, ◌-◌, ◌*◌, ◌/◌, ◌%◌, ◌≤◌, ◌<◌, min}
-use native.Mathlib.Nat.{mul-le-mul_right, mul-div_cancel, mul-mod_left, div-add-mod', suc-mul, suc-add, add_comm, zero-add}
+use native.Mathlib.Nat.{mul-le-mul_right, mul-div_cancel, mul-mod_left, div-add-mod', suc-mul, add_comm}
 use native.Mathlib.Omega.{arith}
 use borrow.Author.Tests.{eq-eqb}
 use lib.ListN.{length, take, drop, replicate, length-take, length-drop, length-append, drop_of_length-le, take-append-drop}
-use lib.Seq.{take-nil, take_at, drop_at, take-take, length-take-le}
+use lib.Seq.{take_at, drop_at, take-take, length-take-le}
 use lib.IntN.{ℤ, pos}
 use Rattle.std.proofs.lemmas.List.{drop-take}
 use Rattle.std.specs.Prelude.{Result, Ok, Err, is_ok}

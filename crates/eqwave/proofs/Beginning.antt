@@ -15,8 +15,7 @@ use Rattle.answers.specs.Unit.{largest_data}
 use Rattle.samples.specs.Channels.{count_of}
 use Rattle.samples.specs.declared.channels.Channels.{Channels}
 use Rattle.std.specs.Prelude.{Result, Ok, is_ok, IsOk}
-use Rattle.tree.specs.Prototype.{published}
-use Rattle.tree.specs.Tree.{delay}
+use Rattle.eqfile.specs.Turn.{late}
 use Rattle.octave.specs.declared.memory.PrepareError.{PrepareError}
 use Rattle.octave.specs.Memory.{side_places, memory_length, prepared, prepare_of}
 use Rattle.wave_writer.specs.Header.{header, write_of}
@@ -64,7 +63,7 @@ module _ (channels : Channels) {places : ℕ} (counted : places ≡ memory_lengt
   module _ {n : ℕ} {r : Result ℕ PrepareError} {m : List ℤ} (sides : n ≡ count_of channels)
       (d : Done (prepare_of (pos bands) (to_z w32 n) (take places (replicate (memory_length bands 2) (pos 0)))) r m) where
     accepted_is : prepare_of (pos bands) (to_z w32 n) (take places (replicate (memory_length bands 2) (pos 0))) ≡
-        record { result = Ok (delay published bands); lent = prepared bands (count_of channels) }
+        record { result = Ok late; lent = prepared bands (count_of channels) }
     unfolding decide
     accepted_is =
         let cleared : List ℤ = replicate (memory_length bands 2) (pos 0) in
