@@ -12,6 +12,7 @@ use frames::count::frames_in;
 use frames::sides::Side;
 use lines::cascade::cascade;
 use lines::row::ROW;
+use ring::line::Ring;
 use weighing::rows::{weigh_rows, weigh_with};
 use weighing::weights::Weights;
 
@@ -46,7 +47,7 @@ fn side_row(
     ensures { RowsDone (rowed published size (bands - 1) 1 at lines.old (side_numbers side.channels side.s n input.now)) n lines.new rows.new }
 {
     side.gather(input, n, rows);
-    cascade(lines, size, at, 1, bands, n, rows);
+    cascade(lines, Ring { size, at, l: 1 }, bands, n, rows);
 }
 
 // Every sample of one side, from the position `from`, in the matrix lent, weighed with `gains` into the output; where there are other gains, each row is

@@ -6,7 +6,7 @@ ghost use Rattle.tree.specs.Prototype.{published};
 ghost use Rattle.lines.specs.Rows.{row_places, line};
 ghost use Rattle.lines.specs.Helpers.{Between, Part, LineDone};
 
-use ring::line::Line;
+use ring::line::{Line, Ring};
 
 // The places of a row in the matrix.
 pub const ROW: usize = 32;
@@ -14,27 +14,24 @@ pub const ROW: usize = 32;
 // The samples from `from` to `to`. What is known of where their taps stand (ring::line::Line::low) is known of each.
 fn part<const BACK: usize, const ROUND: usize>(
     lines: &mut [i32],
-    size: usize,
-    at: usize,
-    l: usize,
+    ring: Ring,
     from: usize,
     to: usize,
     rows: &mut [i32],
 )
-    requires { Part published lines.old size at l from to rows.old × Between BACK ROUND l at from to }
-    ensures { LineDone (line published size l (at + from) lines.old (slice from to (take row_places rows.old))) from to rows.old lines.new rows.new }
+    requires { Part published lines.old ring.size ring.at ring.l from to rows.old × Between BACK ROUND ring.l ring.at from to }
+    ensures { LineDone (line published ring.size ring.l (ring.at + from) lines.old (slice from to (take row_places rows.old))) from to rows.old lines.new rows.new }
 {
     for i in from..to {
         let x = rows[i];
+        let at = ring.at + i;
         let line = Line {
             places: lines,
-            size,
-            at: at + i,
-            l,
+            ring: Ring { at, ..ring },
         };
         rows[i] = line.late();
         rows[ROW + i] = line.low::<BACK, ROUND>(x);
-        lines[at + i] = x;
+        lines[at] = x;
     }
 }
 
@@ -48,18 +45,16 @@ fn up_to(end: usize, at: usize, n: usize) -> usize
 // A whole row of n samples: the parts where taps wrap come first.
 pub(crate) fn line_over(
     lines: &mut [i32],
-    size: usize,
-    at: usize,
-    l: usize,
+    ring: Ring,
     n: usize,
     rows: &mut [i32],
 )
-    requires { Part published lines.old size at l 0 n rows.old }
-    ensures { LineDone (line published size l at lines.old (take n rows.old)) 0 n rows.old lines.new rows.new }
+    requires { Part published lines.old ring.size ring.at ring.l 0 n rows.old }
+    ensures { LineDone (line published ring.size ring.l ring.at lines.old (take n rows.old)) 0 n rows.old lines.new rows.new }
 {
-    let w = up_to(9 * l, at, n);
-    let v = up_to(18 * l, at, n);
-    part::<0, 9>(lines, size, at, l, 0, w, rows);
-    part::<9, 18>(lines, size, at, l, w, v, rows);
-    part::<18, 19>(lines, size, at, l, v, n, rows);
+    let w = up_to(9 * ring.l, ring.at, n);
+    let v = up_to(18 * ring.l, ring.at, n);
+    part::<0, 9>(lines, ring, 0, w, rows);
+    part::<9, 18>(lines, ring, w, v, rows);
+    part::<18, 19>(lines, ring, v, n, rows);
 }

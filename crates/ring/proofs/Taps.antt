@@ -5,7 +5,6 @@ use Prim.Native.Nat.{ℕ, zero, suc, ◌+◌, ◌-◌, ◌*◌, ◌≤◌, ◌<�
 use native.Mathlib.Nat.{mul_comm}
 use native.Mathlib.Omega.{arith}
 use borrow.Author.Tests.{le-leb, lt-leb}
-use lib.Dec.{lit<, lit≤}
 use lib.ListN.{get_or}
 use lib.IntN.{ℤ, pos, nat_abs, ◌*ℤ◌}
 use lib.Signed.{mag}
@@ -17,8 +16,7 @@ use Rattle.whole.proofs.Signed.{var, lit, neg, ◌⊕◌, ◌⊗◌, eq_by, abou
 use Rattle.whole.specs.Nearest.{nearest}
 use Rattle.answers.specs.Unit.{least_place, most_place}
 use Rattle.whole.specs.Limit.{limit}
-use Rattle.whole.proofs.Limit.{limit32_fits}
-use Rattle.whole.proofs.Rounded.{raw, nearest_fits}
+use Rattle.whole.proofs.Rounded.{raw}
 use Rattle.tree.specs.Prototype.{published, coefficient}
 use Rattle.ring.specs.Line.{place, ago, tap, line_sum, low_value, late_value}
 use Rattle.ring.specs.Helpers.{eleven, Weighed}
@@ -77,15 +75,11 @@ read-tap line size at L x (suc i) r s e f = record { fits = f; value = e ∙ ap 
 
 -- ---- from the sum to the line's new value
 
-pub low_value_is : (line : List ℤ) (size at L : ℕ) (x s n r : ℤ) → s ≡ line_sum published line size at L x → nat_abs s ≤ 2 ^ 51 →
+pub low_value_is : (line : List ℤ) (size at L : ℕ) (x : ℤ) {s n r : ℤ} → SFits w64 n → SFits w32 r → s ≡ line_sum published line size at L x → nat_abs s ≤ 2 ^ 51 →
     n ≡ nearest 100000 (raw w64 s) → r ≡ limit least_place most_place (raw w64 n) → raw w32 r ≡ low_value published line size at L x
 unfolding low_value
-low_value_is line size at L x s n r h b e l =
-    let s-is : raw w64 s ≡ s = small_raw s b in
-    let n-is : n ≡ nearest 100000 s = e ∙ ap (nearest 100000) s-is in
-    let n-fits : SFits w64 n = rw n-is (nearest_fits 100000 (lit< tt) (lit≤ tt) s (omega arith)) in
-    let r-is : r ≡ limit least_place most_place n = l ∙ ap (limit least_place most_place) (to_z-of_z n-fits) in
-    to_z-of_z {w = w32} {z = r} (rw r-is (limit32_fits n)) ∙ r-is ∙ ap (limit least_place most_place) (n-is ∙ ap (nearest 100000) h)
+low_value_is line size at L x {s} fn fr h b e l =
+    to_z-of_z fr ∙ l ∙ ap (limit least_place most_place) (to_z-of_z fn ∙ e ∙ ap (nearest 100000) (small_raw s b ∙ h))
 
 -- ---- the aligned sample: `size - 9·L` back is 9·L ahead, in the ring
 

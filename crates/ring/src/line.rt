@@ -13,34 +13,41 @@ use whole::rounding::nearest;
 // What stands for 1 in the coefficients.
 const SCALE: u32 = 100000;
 
+// A ring of `size` places, the place of its next sample, and the stretch of the taps.
+#[derive(Clone, Copy)]
+pub struct Ring {
+    pub size: usize,
+    pub at: usize,
+    pub l: usize,
+}
+
 // A line before its next sample is stored.
 #[derive(Clone, Copy)]
 pub struct Line<'a> {
     pub places: &'a [i32],
-    pub size: usize,
-    pub at: usize,
-    pub l: usize,
-    pub ghost within: { Within published places.now size at l },
+    pub ring: Ring,
+    pub ghost within: { Within published places.now ring.size ring.at ring.l },
 }
 
 impl<'a> Line<'a> {
     // The tap. Those up to BACK·l back stand before the position, those from ROUND·l on around the end of the ring, so
     // that only those between are looked at.
     fn tap<const BACK: usize, const ROUND: usize>(&self, i: usize) -> i32
-        requires { Reach BACK ROUND self.now.at self.now.l × (i ≤ 18) }
-        ensures { result ≡ ago self.now.places.now self.now.size self.now.at (i * self.now.l) }
+        requires { Reach BACK ROUND self.now.ring.at self.now.ring.l × (i ≤ 18) }
+        ensures { result ≡ ago self.now.places.now self.now.ring.size self.now.ring.at (i * self.now.ring.l) }
     {
-        let back = i * self.l;
-        if i <= BACK || i < ROUND && back <= self.at {
-            return self.places[self.at - back];
+        let ring = self.ring;
+        let back = i * ring.l;
+        if i <= BACK || i < ROUND && back <= ring.at {
+            return self.places[ring.at - back];
         }
-        self.places[self.at + self.size - back]
+        self.places[ring.at + ring.size - back]
     }
 
     // The new value of the line below.
     pub fn low<const BACK: usize, const ROUND: usize>(&self, x: i32) -> i32
-        requires { Reach BACK ROUND self.now.at self.now.l }
-        ensures { result ≡ low_value published self.now.places.now self.now.size self.now.at self.now.l x }
+        requires { Reach BACK ROUND self.now.ring.at self.now.ring.l }
+        ensures { result ≡ low_value published self.now.places.now self.now.ring.size self.now.ring.at self.now.ring.l x }
     {
         let sum = weigh(
             x,
@@ -60,12 +67,13 @@ impl<'a> Line<'a> {
 
     // This line's aligned sample: the one size - 9·l back is 9·l ahead, around the end.
     pub fn late(&self) -> i32
-        ensures { result ≡ late_value published self.now.places.now self.now.size self.now.at self.now.l }
+        ensures { result ≡ late_value published self.now.places.now self.now.ring.size self.now.ring.at self.now.ring.l }
     {
-        let ahead = self.at + 9 * self.l;
-        if ahead < self.size {
+        let Ring { size, at, l } = self.ring;
+        let ahead = at + 9 * l;
+        if ahead < size {
             return self.places[ahead];
         }
-        self.places[ahead - self.size]
+        self.places[ahead - size]
     }
 }

@@ -7,7 +7,6 @@ use native.Mathlib.Omega.{arith}
 use lib.ListN.{length, get_or}
 use lib.Seq.{ext_get_or}
 use lib.IntN.{ℤ, pos, nat_abs, ◌+ℤ◌, ◌-ℤ◌, ◌*ℤ◌, zero-*ℤ}
-use lib.Dec.{lit<, lit≤}
 use lib.Signed.{nat_abs-le}
 use mir.Syntax.{w32, w64}
 use mir.Val.{SFits}
@@ -19,8 +18,7 @@ use Rattle.whole.specs.Sum.{sum}
 use Rattle.whole.proofs.Signed.{var, lit, ◌⊕◌, ◌⊖◌, ◌⊗◌, eq_by, about}
 use Rattle.whole.proofs.Magnitude.{abs-+ℤ, abs-*ℤ}
 use Rattle.whole.proofs.Sums.{sum-ext, sum_none}
-use Rattle.whole.proofs.Limit.{limit24_fits}
-use Rattle.whole.proofs.Rounded.{raw, nearest_fits}
+use Rattle.whole.proofs.Rounded.{raw}
 use Rattle.frames.specs.Frames.{side}
 use Rattle.frames.proofs.Laws.{side-length}
 use Rattle.tree.specs.Signal.{gain_of}
@@ -182,14 +180,9 @@ outputs_at g (a ∷ cols) zero h = refl
 outputs_at g (a ∷ cols) (suc i) h = outputs_at g cols i (omega arith)
 
 -- the output that a sum comes to, in 32 bits
-pub out_back : {bands i : ℕ} {matrix ds : List ℤ} {s n r : ℤ} → bands ≤ 10 → SumDone bands i matrix ds s → n ≡ nearest unity (raw w64 s) → r ≡ limit least_sample most_sample (raw w64 n) →
-    raw w32 r ≡ out_of (gain_sum bands bands i matrix ds)
-out_back {s = s} {n} {r} few d en er =
-    let s-back : raw w64 s ≡ s = to_z-of_z {w = w64} {z = s} (record { sfits = omega (arith, about s, d.bounded) }) in
-    let n-is : n ≡ nearest unity s = en ∙ ap (nearest unity) s-back in
-    let n-back : raw w64 n ≡ n = to_z-of_z {w = w64} {z = n} (rw n-is (nearest_fits 4096 (lit< tt) (lit≤ tt) s (omega (arith, d.bounded)))) in
-    let r-is : r ≡ out_of s = er ∙ ap (limit least_sample most_sample) (n-back ∙ n-is) in
-    to_z-of_z {w = w32} {z = r} (rw r-is (limit24_fits (nearest unity s))) ∙ r-is ∙ ap out_of d.value
+pub out_back : {bands i : ℕ} {matrix ds : List ℤ} {s n r : ℤ} → SFits w64 s → SFits w64 n → SFits w32 r → SumDone bands i matrix ds s →
+    n ≡ nearest unity (raw w64 s) → r ≡ limit least_sample most_sample (raw w64 n) → raw w32 r ≡ out_of (gain_sum bands bands i matrix ds)
+out_back fs fn fr d en er = to_z-of_z fr ∙ er ∙ ap (limit least_sample most_sample) (to_z-of_z fn ∙ en ∙ ap (nearest unity) (to_z-of_z fs ∙ d.value))
 
 -- outputs of all samples are the outputs of the rows
 pub outputs_weighed : (bands : ℕ) (matrix ds outs : List ℤ) → 1 ≤ bands → ((j : ℕ) → j < length outs → get_or outs j (pos 0) ≡ out_of (gain_sum bands bands j matrix ds)) → RowWeighed bands matrix ds outs

@@ -1,4 +1,4 @@
--- The laws of `limit`, over any two ends; then at the ends of a sample and of a place. Assumes nothing.
+-- The laws of `limit`, over any two ends; then at the ends of a place. Assumes nothing.
 use mathlib.Core.Path.{◌≡◌, refl}
 use mathlib.Core.Bool.{Bool, true, false, cond}
 use Prim.Native.Nat.{ℕ, ◌+◌, ◌≤◌, ◌<◌, ◌^◌}
@@ -9,10 +9,9 @@ use lib.IntN.{ℤ, pos, nat_abs, ◌-ℤ◌, ◌*ℤ◌}
 use lib.Signed.{lt_z, ◌≤ℤ◌, ◌<ℤ◌, ≤ℤ_refl}
 use mir.Syntax.{w32}
 use mir.Val.{SFits}
-use mir.Facts.{sfits_lit}
-use Rattle.answers.specs.Unit.{least_sample, most_sample, least_place, most_place}
+use Rattle.answers.specs.Unit.{least_place, most_place}
 use Rattle.whole.specs.Limit.{limit}
-use Rattle.whole.proofs.Signed.{up, down, var, lit, ◌⊖◌, ◌⊗◌, Near, eq_by, le_by, lt_by, abs_by, abs_of, mag_by, mag_of, le_of, lt_of, read_le, lt_z_yes, lt_z_no, signed}
+use Rattle.whole.proofs.Signed.{up, down, var, lit, ◌⊖◌, ◌⊗◌, Near, eq_by, le_by, lt_by, abs_by, abs_of, mag_of, le_of, lt_of, lt_z_yes, lt_z_no, signed}
 use Rattle.whole.proofs.Magnitude.{abs_sym}
 
 -- ---- the three cases
@@ -117,17 +116,7 @@ limit-scale k h lo hi z = rw (lt_z_scale k h z lo, lt_z_scale k h hi z) (by (lt_
     by false true = refl
     by false false = refl
 
--- ---- a sample's ends and a place's
-
-pub limit24_fits : (z : ℤ) → SFits w32 (limit least_sample most_sample z)
-limit24_fits z =
-    limit_cases least_sample most_sample z (SFits w32) (λ _. sfits_lit tt) (λ _. sfits_lit tt)
-    (λ l h. record { sfits = mag_by (var z) (2 ^ 31) (omega (arith, read_le z most_sample h)) (omega (arith, read_le least_sample z l)) })
-
-pub limit32_fits : (z : ℤ) → SFits w32 (limit least_place most_place z)
-limit32_fits z =
-    limit_cases least_place most_place z (SFits w32) (λ _. sfits_lit tt) (λ _. sfits_lit tt)
-    (λ l h. record { sfits = mag_by (var z) (2 ^ 31) (omega (arith, read_le z most_place h)) (omega (arith, read_le least_place z l)) })
+-- ---- a place's ends
 
 -- what fits 32 bits is not moved
 pub limit32_id : {z : ℤ} → SFits w32 z → limit least_place most_place z ≡ z

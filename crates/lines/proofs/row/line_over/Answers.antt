@@ -9,7 +9,7 @@ returns c =
     let a = c.args in
     let w = c.up_to-w.result in
     let v = c.up_to-v.result in
-    let k = cuts a.at a.l a.n w v c.up_to-w.ensures c.up_to-v.ensures in
+    let k = cuts a.ring.at a.ring.l a.n w v c.up_to-w.ensures c.up_to-v.ensures in
     let m = a.rows.now in
     let near = c.part in
     let far = c.part-2 in
@@ -18,8 +18,8 @@ returns c =
     let long : row_places ≤ length m = omega (arith, c.requires.room) in
     let long₁ : row_places ≤ length near.new.rows = omega (arith, long, near.auto.rows) in
     let long₂ : row_places ≤ length far.new.rows = omega (arith, long₁, far.auto.rows) in
-    parts published a.size a.at a.l v a.n a.lines.now m far.new.lines far.new.rows straight.new.lines straight.new.rows k.second c.requires.short long long₂
-    (parts published a.size a.at a.l w v a.lines.now m near.new.lines near.new.rows far.new.lines far.new.rows k.first short long long₁
-    (starting published a.size a.at a.l w a.lines.now m near.new.lines near.new.rows (omega (arith, k.first, short)) near.ensures)
+    parts published a.ring.size a.ring.at a.ring.l v a.n a.lines.now m far.new.lines far.new.rows straight.new.lines straight.new.rows k.second c.requires.short long long₂
+    (parts published a.ring.size a.ring.at a.ring.l w v a.lines.now m near.new.lines near.new.rows far.new.lines far.new.rows k.first short long long₁
+    (starting published a.ring.size a.ring.at a.ring.l w a.lines.now m near.new.lines near.new.rows (omega (arith, k.first, short)) near.ensures)
     far.ensures)
     straight.ensures

@@ -4,4 +4,4 @@ use Rattle.lines.proofs.Loops.{Going}
 use Rattle.lines.proofs.row.part.Given as goal
 
 abbrev pub invariant-loop-i : goal.invariant-loop-i
-invariant-loop-i g l = Going published l.size l.at l.l l.from l.to l.initial.lines l.initial.rows l.lines l.rows l.i
+invariant-loop-i g l = Going published l.ring.size l.ring.at l.ring.l l.from l.to l.initial.lines l.initial.rows l.lines l.rows l.i

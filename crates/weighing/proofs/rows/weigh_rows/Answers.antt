@@ -12,7 +12,7 @@ loop-i-preserved c =
     let a = c.args in
     let to = a.side in
     putting_on to.channels to.s (λ j. out_of (gain_sum a.bands a.bands j a.rows.now a.weights.now.differences)) a.output.now c.loop-i.invariant to.there a.n _ c.loop-i-test.true c.requires.5
-    (out_back c.requires.1 c.sum_at.ensures c.nearest-rounded.ensures c.limit.ensures)
+    (out_back (record { sfits = c.sum_at.type_inv }) (record { sfits = c.nearest-rounded.type_inv }) (record { sfits = c.limit.type_inv }) c.sum_at.ensures c.nearest-rounded.ensures c.limit.ensures)
 
 pub returns : goal.returns
 returns c =

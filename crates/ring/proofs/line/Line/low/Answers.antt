@@ -10,9 +10,9 @@ returns g c =
     let a = c.args.self.now in
     let x = c.args.x in
     let line = a.places.now in
-    let read = read-tap line a.size a.at a.l x in
-    let sum : c.weigh-sum.result ≡ line_sum published line a.size a.at a.l x =
-    summed line a.size a.at a.l x (read_new line a.size a.at a.l c.ranges.x)
+    let read = read-tap line a.ring.size a.ring.at a.ring.l x in
+    let sum : c.weigh-sum.result ≡ line_sum published line a.ring.size a.ring.at a.ring.l x =
+    summed line a.ring.size a.ring.at a.ring.l x (read_new line a.ring.size a.ring.at a.ring.l c.ranges.x)
     (read 2 c.tap.result (lit≤ tt) c.tap.ensures c.tap.type_inv)
     (read 4 c.tap-2.result (lit≤ tt) c.tap-2.ensures c.tap-2.type_inv)
     (read 6 c.tap-3.result (lit≤ tt) c.tap-3.ensures c.tap-3.type_inv)
@@ -24,4 +24,4 @@ returns g c =
     (read 16 c.tap-9.result (lit≤ tt) c.tap-9.ensures c.tap-9.type_inv)
     (read 18 c.tap-10.result (lit≤ tt) c.tap-10.ensures c.tap-10.type_inv)
     c.weigh-sum.ensures in
-    low_value_is line a.size a.at a.l x c.weigh-sum.result c.nearest.result c.limit.result sum c.weigh-sum.ensures.size c.nearest.ensures c.limit.ensures
+    low_value_is line a.ring.size a.ring.at a.ring.l x (record { sfits = c.nearest.type_inv }) (record { sfits = c.limit.type_inv }) sum c.weigh-sum.ensures.size c.nearest.ensures c.limit.ensures
