@@ -1,6 +1,9 @@
 -- A block call that is accepted answers as many outputs as samples, each in range; one that is refused leaves the memory. Assumes nothing.
-use mathlib.Core.Path.{◌≡◌, refl, sym, subst, ◌∙◌}
-use mathlib.Core.Bool.{Bool, true, false, cond}
+use mathlib.Core.Path.{◌≡◌, refl, sym, ap, subst, ◌∙◌}
+use mathlib.Core.Logic.{⊎_elim}
+use Rattle.std.specs.Prelude.{Result, Ok, Err, is_ok}
+use Rattle.octave.proofs.Refusals.{block_held}
+use mathlib.Core.Bool.{Bool, true, false, cond, false≢true, true≢false}
 use mathlib.Core.List.{List, [], ◌∷◌}
 use Prim.Native.Nat.{ℕ, zero, suc, ◌%◌}
 use borrow.Author.Tests.{eqb-true}
@@ -9,12 +12,12 @@ use lib.ListN.{length, get_or, drop}
 use lib.IntN.{ℤ, pos}
 use lib.Signed.{lt_z, le_z, ◌≤ℤ◌, lt_z_yes, clash_ℤ}
 use Rattle.answers.specs.Answer.{number_in}
-use Rattle.answers.specs.Checks.{all_hold}
+use Rattle.answers.specs.Checks.{all_hold, Outcome}
 use Rattle.answers.specs.First.{first_failing}
 use Rattle.answers.specs.Range.{within, all_within}
 use Rattle.answers.specs.Unit.{least_sample, most_sample, largest_gain, unity}
 use Rattle.answers.proofs.Ranges.{all_cons, cons_all}
-use Rattle.answers.proofs.Laws.{and_left, and_right, all_accept, refused_keeps}
+use Rattle.answers.proofs.Laws.{and_left, and_right, all_accept, all_or_first, first_refuses}
 use Rattle.whole.specs.Nearest.{nearest}
 use Rattle.whole.proofs.Limit.{limit-least, limit_most}
 use Rattle.tree.specs.Signal.{gain_of}
@@ -22,7 +25,7 @@ use Rattle.frames.specs.Frames.{frame, woven}
 use Rattle.frames.proofs.Laws.{whole_frames_lem, woven-length}
 use Rattle.samples.proofs.InRange.{all_append}
 use Rattle.weighing.specs.Weighing.{out_of, band_sum, outputs}
-use Rattle.octave.specs.declared.block.Blocked.TheVariants.{Written}
+use Rattle.octave.specs.declared.block.BlockError.{BlockError}
 use Rattle.octave.specs.Answer.{block_answer}
 use Rattle.octave.specs.Memory.{channels_in, accepts, bands_in}
 use Rattle.octave.specs.Block.{frames_of, block_checks, ran_side, equalised, block_of}
@@ -102,8 +105,8 @@ module _ (m gains input : List ℤ) where
 -- ---- the block call
 
 module _ (m gains input before : List ℤ) where
-  pub held_ran : all_hold (block_checks m gains input before) ≡ true → block_of m gains input before ≡ record { result = Written (frames_of m input); lent = equalised m gains input }
-  held_ran h = all_accept (m, before) (equalised m gains input) (Written (frames_of m input)) (block_checks m gains input before) h
+  pub held_ran : all_hold (block_checks m gains input before) ≡ true → block_of m gains input before ≡ record { result = Ok (frames_of m input); lent = equalised m gains input }
+  held_ran h = all_accept (m, before) (equalised m gains input) (Ok (frames_of m input)) (block_checks m gains input before) h
 
   -- .. whose samples are whole frames
   pub held_whole : all_hold (block_checks m gains input before) ≡ true → length input % channels_in m ≡ 0
@@ -115,6 +118,17 @@ module _ (m gains input before : List ℤ) where
       let framed = and_right (eqb (length before) (length input)) _ alike in
       eqb-true (length input % channels_in m) 0 (and_left (eqb (length input % channels_in m) 0) _ framed)
 
-  -- an answer with a number was refused, and leaves what was lent
-  pub refused_kept : (number_in (block_answer (block_of m gains input before).result) ≡ 0 → ⊥) → (block_of m gains input before).lent ≡ (m, before)
-  refused_kept n = refused_keeps block_answer (block_checks m gains input before) (m, before) (equalised m gains input) (Written (frames_of m input)) n refl
+  -- an accepted answer: no check failed
+  pub written_held : is_ok (block_of m gains input before).result ≡ true → all_hold (block_checks m gains input before) ≡ true
+  written_held e = block_held m gains input before (by (block_of m gains input before).result e)
+    where
+      by : (b : Result ℕ BlockError) → is_ok b ≡ true → number_in (block_answer b) ≡ 0
+      by (Ok n) e = refl
+      by (Err r) e = absurd (false≢true e)
+
+  -- .. and a refused one leaves what was lent
+  pub refused_kept : is_ok (block_of m gains input before).result ≡ false → (block_of m gains input before).lent ≡ (m, before)
+  refused_kept e =
+      ⊎_elim (λ h. absurd (true≢false (sym (ap (λ (b : Outcome (Result ℕ BlockError) (List ℤ × List ℤ)). is_ok b.result) (held_ran h)) ∙ e)))
+      (λ h. ap (λ (b : Outcome (Result ℕ BlockError) (List ℤ × List ℤ)). b.lent) (first_refuses (m, before) (equalised m gains input) (Ok (frames_of m input)) h.1))
+      (all_or_first (block_checks m gains input before))

@@ -3,4 +3,4 @@
 
 mod block;
 
-pub use block::{Equalised, equalise};
+pub use block::equalise;

@@ -1,62 +1,80 @@
 -- The checks in their order. Assumes nothing.
-use mathlib.Core.Path.{◌≡◌, refl}
-use mathlib.Core.Bool.{Bool, true, false, cond}
+use mathlib.Core.Path.{◌≡◌, refl, sym, ap, ◌∙◌}
+use mathlib.Core.Bool.{Bool, true, false, cond, true≢false}
 use lib.Dec.{eqb, ltb}
 use mathlib.Core.List.{List}
-use Prim.Native.Nat.{ℕ, ◌*◌, ◌/◌, ◌≤◌, ◌<◌}
+use Prim.Native.Nat.{ℕ, ◌*◌, ◌/◌, ◌≤◌}
 use native.Mathlib.Omega.{arith}
-use borrow.Author.Tests.{lt-ltb, le-ltb, ltb-false, eq-eqb, ne_eqb}
+use borrow.Author.Tests.{le-ltb, ltb-false, eq-eqb, ne_eqb}
+use Rattle.std.specs.Prelude.{Option, Some, None, Result, Ok, Err, IsErrAnd, not}
+use Rattle.std.specs.Option.{option_eq}
+use Rattle.wave.specs.Walk as wave
+use Rattle.wave.specs.declared.refusal.Refusal as wave_refusal
+use Rattle.eqfile.specs.declared.refusal.Refusal.{Refusal}
+use Rattle.eqfile.specs.declared.refusal.Refusal.TheVariants.{Header}
 use Rattle.answers.specs.Answer.{Answer, accepted, refused}
 use Rattle.answers.specs.Unit.{largest_data}
 use Rattle.samples.specs.Channels.{count_of}
 use Rattle.samples.specs.declared.channels.Channels.{Channels}
 use Rattle.samples.specs.declared.channels.Channels.TheVariants.{One, Two}
-use Rattle.wave.specs.Walk.{Found, read_of, read_answer}
-use Rattle.samples.specs.declared.format.Format.{Format}
+use Rattle.wave.specs.declared.found.Found.{Found}
+use Rattle.wave.specs.Walk.{read_of}
 use Rattle.wave_values.specs.Values.{frame_size}
-use Rattle.wave.specs.declared.reader.Reading.TheVariants.{Accepted}
-use Rattle.arguments.specs.declared.taking.Arguments.{Arguments}
-use Rattle.arguments.specs.declared.taking.Arguments.TheVariants as arguments
 use Rattle.arguments.specs.Arguments.{bands}
-use Rattle.eqfile.specs.Start.{Plan, plan_for, plan_of, start_of}
-
-pub reader_refuses : (k : ℕ) → refused k 0 ≡ plan_of (refused k 0)
-unfolding plan_of
-reader_refuses k = refl
+use Rattle.eqfile.specs.declared.plan.Plan.{Plan}
+use Rattle.eqfile.specs.Start.{plan_for, plan_of, start_of, start_answer}
 
 -- the most samples that a header can state, as frames of so many channels
-more_than : (channels : Channels) (n : ℕ) → largest_data / 3 / count_of channels < n → largest_data < 3 * (count_of channels * n)
-more_than One n h = omega arith
-more_than Two n h = omega arith
-
 no_more_than : (channels : Channels) (n : ℕ) → n ≤ largest_data / 3 / count_of channels → 3 * (count_of channels * n) ≤ largest_data
 no_more_than One n h = omega arith
 no_more_than Two n h = omega arith
 
-module _ (rate : ℕ) (format : Format) (channels : Channels) (size start block count : ℕ) (is : block ≡ frame_size (count_of channels) format) (sides : count ≡ count_of channels) where
+module _ (f : Found) (block count : ℕ) (is : block ≡ frame_size (count_of f.channels) f.format) (sides : count ≡ count_of f.channels) where
   abbrev frames : ℕ
-  frames = size / frame_size (count_of channels) format
+  frames = f.size / frame_size (count_of f.channels) f.format
 
-  pub too_long : largest_data / 3 / count < size / block → refused 26 0 ≡ plan_of (read_answer (Accepted rate format channels size start))
-  unfolding plan_of
-  too_long h = rw (lt-ltb largest_data (3 * (count_of channels * frames)) (more_than channels frames (rw (is, sides) at h)))
+  pub to_be_written : f.size / block ≤ largest_data / 3 / count →
+      accepted (record { rate = f.rate; format = f.format; channels = f.channels; frames = f.size / block; start = f.start }) ≡ plan_for f
+  to_be_written h = rw (is, le-ltb largest_data (3 * (count_of f.channels * frames)) (no_more_than f.channels frames (rw (is, sides) at h)))
 
-  pub to_be_written : size / block ≤ largest_data / 3 / count →
-      accepted (record { rate = rate; format = format; channels = channels; frames = size / block; start = start }) ≡ plan_of (read_answer (Accepted rate format channels size start))
-  unfolding plan_of
-  to_be_written h = rw (is, le-ltb largest_data (3 * (count_of channels * frames)) (no_more_than channels frames (rw (is, sides) at h)))
-
-pub arguments_refused : (front : List ℕ) → refused 30 0 ≡ start_of arguments.Refused front
+pub arguments_refused : (front : List ℕ) → refused 30 0 ≡ start_of None front
 unfolding start_of
 arguments_refused front = refl
 
-pub not_eight : (n : ℕ) (front : List ℕ) → (n ≡ bands → ⊥) → refused 30 0 ≡ start_of (arguments.Taken n) front
+pub not_eight : (n : ℕ) (front : List ℕ) → (n ≡ bands → ⊥) → refused 30 0 ≡ start_of (Some n) front
 unfolding start_of
 not_eight n front h = rw (ne_eqb n bands h)
 
-pub eight : (n : ℕ) (front : List ℕ) (a : Answer Plan) → n ≡ bands → a ≡ plan_of (read_of front) → a ≡ start_of (arguments.Taken n) front
+pub eight : (n : ℕ) (front : List ℕ) (a : Answer Plan) → n ≡ bands → a ≡ plan_of (read_of front) → a ≡ start_of (Some n) front
 unfolding start_of
 eight n front a h e = rw (eq-eqb n bands h, e)
+
+-- ---- the same, as the code tests them
+
+pub other_arguments : (a : Option ℕ) (front : List ℕ) → true ≡ not (option_eq eqb a (Some bands)) → refused 30 0 ≡ start_of a front
+unfolding start_of
+other_arguments None front e = refl
+other_arguments (Some n) front e = by (eqb n bands) e
+  where
+    by : (b : Bool) → true ≡ not b → refused 30 0 ≡ cond b (plan_of (read_of front)) (refused 30 0)
+    by true e = absurd (true≢false e)
+    by false e = refl
+
+pub eight_taken : (a : Option ℕ) (front : List ℕ) (r : Answer Found) (p : Answer Plan) → false ≡ not (option_eq eqb a (Some bands)) → r ≡ read_of front → p ≡ plan_of r → p ≡ start_of a front
+unfolding start_of
+eight_taken None front r p e read planned = absurd (true≢false (sym e))
+eight_taken (Some n) front r p e read planned = planned ∙ ap plan_of read ∙ by (eqb n bands) e
+  where
+    by : (b : Bool) → false ≡ not b → plan_of (read_of front) ≡ cond b (plan_of (read_of front)) (refused 30 0)
+    by true e = refl
+    by false e = absurd (true≢false (sym e))
+
+-- the reader's refusal is passed on
+pub passed_on : (r : Result Plan Refusal) (header : wave_refusal.Refusal) → IsErrAnd r (λ (e : Refusal). e ≡ Header header) →
+    start_answer r ≡ plan_of (refused (wave.refusal_of header).number (wave.refusal_of header).place)
+unfolding plan_of
+passed_on (Ok p) header e = absurd e
+passed_on (Err refusal) header e = let answer : Refusal → Answer Plan = λ r. start_answer (Err r) in ap answer e
 
 -- a run that starts has frames whose bytes a header can state
 abbrev pub Writable : Answer Plan → Type 0
@@ -82,10 +100,10 @@ unfolding plan_of
 writable_read (accepted f) = writable_plan f
 writable_read (refused k p) = tt
 
-pub writable : (a : Arguments) (front : List ℕ) → Writable (start_of a front)
+pub writable : (a : Option ℕ) (front : List ℕ) → Writable (start_of a front)
 unfolding start_of
-writable arguments.Refused front = tt
-writable (arguments.Taken n) front = by (eqb n bands)
+writable None front = tt
+writable (Some n) front = by (eqb n bands)
   where
     by : (b : Bool) → Writable (cond b (plan_of (read_of front)) (refused 30 0))
     by true = writable_read (read_of front)

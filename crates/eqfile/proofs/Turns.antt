@@ -4,8 +4,6 @@ use mathlib.Core.Bool.{Bool, true, false, cond}
 use Prim.Native.Nat.{ℕ, ◌-◌, ◌*◌, ◌≤◌, ◌<◌, min}
 use native.Mathlib.Nat.{mul-le-mul, mul-le-mul_right, mul-le-mul_left}
 use native.Mathlib.Omega.{arith}
-use mir.Val.{Fits}
-use mir.Syntax.{w64}
 use Rattle.samples.specs.Channels.{count_of}
 use Rattle.samples.specs.declared.channels.Channels.{Channels}
 use Rattle.samples.specs.declared.channels.Channels.TheVariants.{One, Two}
@@ -32,12 +30,6 @@ few_bytes Float32 = (omega arith, omega arith)
 pub few_channels : (channels : Channels) → (1 ≤ count_of channels) × (count_of channels ≤ 2)
 few_channels One = (omega arith, omega arith)
 few_channels Two = (omega arith, omega arith)
-
--- a few bytes for each of 2^32 frames
-pub product_fits : (a b : ℕ) → a < 9 → b ≤ 4294967296 → Fits w64 (a * b)
-product_fits a b ha hb =
-    let l : a * b ≤ 8 * b = mul-le-mul_right b (omega arith) in
-    omega arith
 
 -- the samples of a turn's frames have room
 pub samples_most : (count k : ℕ) → count ≤ 2 → k ≤ turn_limit → count * k ≤ turn_room

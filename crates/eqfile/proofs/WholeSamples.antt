@@ -1,35 +1,30 @@
 -- The samples that are wholly there, and zeros after them. Assumes nothing.
-use mathlib.Core.Path.{◌≡◌, refl, sym, ap, ap₂, subst, ◌∙◌}
-use mathlib.Core.Logic.{inl, inr}
+use mathlib.Core.Path.{◌≡◌, refl, sym, ap, ap₂, ◌∙◌}
 use mathlib.Core.Bool.{Bool, true, false, cond}
 use mathlib.Core.List.{List, [], ◌∷◌, ◌++◌, append-nil}
 use Prim.Native.Nat.{ℕ, zero, suc, ◌+◌, ◌-◌, ◌*◌, ◌/◌, ◌%◌, ◌≤◌, ◌<◌, min}
-use native.Mathlib.Nat.{mul-le-mul_right, mul-div_cancel, mul-mod_left, div-add-mod', suc-mul, suc-add, add_comm, zero-add}
+use native.Mathlib.Nat.{mul-le-mul_right, mul-div_cancel, mul-mod_left, div-add-mod', suc-mul, add_comm}
 use native.Mathlib.Omega.{arith}
 use borrow.Author.Tests.{eq-eqb}
 use lib.ListN.{length, take, drop, replicate, length-take, length-drop, length-append, drop_of_length-le, take-append-drop}
-use lib.Seq.{take-nil, take_at, drop_at, take-take, length-take-le}
+use lib.Seq.{take_at, drop_at, take-take, length-take-le}
 use lib.IntN.{ℤ, pos}
+use Rattle.std.proofs.lemmas.List.{drop-take}
+use Rattle.std.specs.Prelude.{Result, Ok, Err, is_ok}
 use borrow.Rule.Slice.PartMut.{put_mid}
-use types.Run.{OneOf}
-use denote.Enum.Declared.{tag_of}
 use Rattle.answers.specs.Checks.{check, Outcome, Done, decide}
 use Rattle.answers.specs.First.{first_failing}
 use Rattle.samples.specs.Samples.{samples_of, pieces_of, first_bad, all_samples, block_from}
 use Rattle.samples.specs.Format.{size_of}
 use Rattle.samples.specs.Sample.{is_sample_in, sample_in}
 use Rattle.samples.specs.declared.format.Format.{Format}
-use Rattle.samples.specs.declared.block.Taken.{Taken}
-use Rattle.samples.specs.declared.block.Taken.TheVariants.{Samples, NotNumber}
-use Rattle.samples.specs.contracts.block.Taken as declared
+use Rattle.samples.specs.declared.block.TakeError.{TakeError}
+use Rattle.samples.specs.declared.block.TakeError.TheVariants.{NotNumber}
+use Rattle.eqfile.specs.declared.refusal.Refusal.{Refusal}
+use Rattle.eqfile.specs.declared.refusal.Refusal.TheVariants as refusal
 use Rattle.samples.proofs.Taking.{length-samples}
 use Rattle.eqfile.specs.Data.{there_of, samples_from, numbers_from, taken_from}
 use Rattle.eqfile.proofs.Turns.{few_bytes}
-
-drop-take : {A : Type 0} (m n : ℕ) (l : List A) → drop m (take (m + n) l) ≡ take n (drop m l)
-drop-take zero n l = ap (λ (k : ℕ). take k l) (zero-add n)
-drop-take (suc m) n [] = ap (drop (suc m)) (take-nil (suc m + n)) ∙ sym (take-nil n)
-drop-take (suc m) n (x ∷ l) = ap (λ (k : ℕ). drop (suc m) (take k (x ∷ l))) (suc-add m n) ∙ drop-take m n l
 
 -- n samples are in the first n·size bytes
 pub samples_in_front : (n : ℕ) (format : Format) (s : List ℕ) → samples_of n format (take (n * size_of format) s) ≡ samples_of n format s
@@ -50,15 +45,6 @@ pieces_in_front (suc n) size s =
     let e : suc n * size ≡ size + n * size = suc-mul n size ∙ add_comm (n * size) size in
     ap₂ ◌∷◌ (take-take size (suc n * size) s (omega arith))
     (ap (pieces_of n size) (ap (λ (k : ℕ). drop size (take k s)) e ∙ drop-take size (n * size) s) ∙ pieces_in_front n size (drop size s))
-
--- an answer of samples is no other
-clash : {n i : ℕ} → Samples n ≡ NotNumber i → ⊥
-clash e = let z : ◌≡◌ {A = ℕ} 0 1 = cc in omega arith
-
-not_tagged : (n : ℕ) → OneOf (1 ∷ 2 ∷ 3 ∷ []) (tag_of declared.the_type (Samples n)) → ⊥
-not_tagged n (inl t) = omega arith
-not_tagged n (inr (inl t)) = omega arith
-not_tagged n (inr (inr t)) = omega arith
 
 module _ (format : Format) (s : List ℕ) (samples : List ℤ) (size k : ℕ) (is : size ≡ size_of format) (here : k ≡ min (length s / size) (length samples)) where
   some : 0 < size
@@ -90,9 +76,9 @@ module _ (format : Format) (s : List ℕ) (samples : List ℤ) (size k : ℕ) (i
   numbers_are = ap (λ (j : ℕ). all_samples j format s) there_is
 
   -- the codec's answer where they all are, and where not
-  abbrev outcome : Bool → Outcome Taken (List ℤ)
-  outcome true = record { result = Samples k; lent = samples_of k format s }
-  outcome false = record { result = NotNumber (first_bad k format s); lent = take k samples }
+  abbrev outcome : Bool → Outcome (Result ℕ TakeError) (List ℤ)
+  outcome true = record { result = Ok k; lent = samples_of k format s }
+  outcome false = record { result = Err (NotNumber (first_bad k format s)); lent = take k samples }
 
   -- the codec judges them alone, and takes them if all are samples
   decided : block_from (take (k * size) s) format (take k samples) ≡ outcome good
@@ -117,36 +103,32 @@ module _ (format : Format) (s : List ℕ) (samples : List ℤ) (size k : ℕ) (i
       pick true = refl
       pick false = refl
 
-  module _ (r : Taken) (last : List ℤ) (d : Done (block_from (take (k * size) s) format (take k samples)) r last) where
-    -- it answered their number: all are samples
-    pub taken_yes : (n : ℕ) → r ≡ Samples n → (good ≡ true) × (last ≡ samples_of k format s)
-    taken_yes n e = by good refl (d.result_is ∙ ap (λ (o : Outcome Taken (List ℤ)). o.result) decided) (d.lent_is ∙ ap (λ (o : Outcome Taken (List ℤ)). o.lent) decided)
+  module _ {r : Result ℕ TakeError} {last : List ℤ} (d : Done (block_from (take (k * size) s) format (take k samples)) r last) where
+    judged : is_ok r ≡ good
+    judged = ap is_ok d.result_is ∙ ap (λ (o : Outcome (Result ℕ TakeError) (List ℤ)). is_ok o.result) decided ∙ by good
       where
-        by : (b : Bool) → good ≡ b →
-            r ≡ (outcome b).result →
-            last ≡ (outcome b).lent →
-            (good ≡ true) × (last ≡ samples_of k format s)
-        by true g p q = (g, q)
-        by false g p q = absurd (clash (sym e ∙ p))
+        by : (b : Bool) → is_ok (outcome b).result ≡ b
+        by true = refl
+        by false = refl
 
-    -- it answered anything else: one is none, and nothing was changed
-    pub taken_no : ((n : ℕ) → r ≡ Samples n → ⊥) → (good ≡ false) × (last ≡ take k samples)
-    taken_no other = by good refl (d.result_is ∙ ap (λ (o : Outcome Taken (List ℤ)). o.result) decided) (d.lent_is ∙ ap (λ (o : Outcome Taken (List ℤ)). o.lent) decided)
-      where
-        by : (b : Bool) → good ≡ b →
-            r ≡ (outcome b).result →
-            last ≡ (outcome b).lent →
-            (good ≡ false) × (last ≡ take k samples)
-        by false g p q = (g, q)
-        by true g p q = absurd (other k p)
+    left : last ≡ (outcome (is_ok r)).lent
+    left = d.lent_is ∙ ap (λ (o : Outcome (Result ℕ TakeError) (List ℤ)). o.lent) decided ∙ ap (λ (b : Bool). (outcome b).lent) (sym judged)
+
+    -- it accepted: all are samples
+    pub taken_yes : is_ok r ≡ true → (good ≡ true) × (last ≡ samples_of k format s)
+    taken_yes e = (sym judged ∙ e, left ∙ ap (λ (b : Bool). (outcome b).lent) e)
+
+    -- it refused: one is none, and nothing was changed
+    pub taken_no : is_ok r ≡ false → (good ≡ false) × (last ≡ take k samples)
+    taken_no e = (sym judged ∙ e, left ∙ ap (λ (b : Bool). (outcome b).lent) e)
 
   -- a part put back as it was
-  pub not_taken : (last : List ℤ) → good ≡ false → last ≡ take k samples → Done (taken_from s format samples) false (last ++ drop k samples)
+  pub not_taken : (last : List ℤ) → good ≡ false → last ≡ take k samples → Done (taken_from s format samples) (Err refusal.NotNumber) (last ++ drop k samples)
   unfolding taken_from decide
   not_taken last g e =
       rw (sym numbers_are ∙ g) (record { result_is = refl; lent_is = ap (λ (l : List ℤ). l ++ drop k samples) e ∙ take-append-drop k samples })
 
-  pub all_taken : (after : List ℤ) → good ≡ true → after ≡ samples_from (length samples) format s → Done (taken_from s format samples) true after
+  pub all_taken : (after : List ℤ) → good ≡ true → after ≡ samples_from (length samples) format s → Done (taken_from s format samples) (Ok tt) after
   unfolding taken_from decide
   all_taken after g e = rw (sym numbers_are ∙ g) (record { result_is = refl; lent_is = e })
 
@@ -169,17 +151,17 @@ module _ (format : Format) (s : List ℕ) (samples : List ℤ) (size k : ℕ) (i
 
 -- ---- what a caller learns
 
-module _ (s : List ℕ) (format : Format) (samples : List ℤ) (r : Bool) (after : List ℤ) (d : Done (taken_from s format samples) r after) where
+module _ (s : List ℕ) (format : Format) (samples : List ℤ) (r : Result (Unit {0}) Refusal) (after : List ℤ) (d : Done (taken_from s format samples) r after) where
   -- the answer is whether they are all numbers
-  pub taken_answer_lem : r ≡ numbers_from (length samples) format s
+  pub taken_answer_lem : is_ok r ≡ numbers_from (length samples) format s
   unfolding taken_from decide
-  taken_answer_lem = d.result_is ∙ by (numbers_from (length samples) format s)
+  taken_answer_lem = ap is_ok d.result_is ∙ by (numbers_from (length samples) format s)
     where
-      by : (b : Bool) → (decide (check b false ∷ []) samples true (samples_from (length samples) format s)).result ≡ b
+      by : (b : Bool) → is_ok (decide {R = Result (Unit {0}) Refusal} (check b (Err refusal.NotNumber) ∷ []) samples (Ok (tt {0})) (samples_from (length samples) format s)).result ≡ b
       by true = refl
       by false = refl
 
   -- .. and if they are, they were taken
-  pub taken-samples : r ≡ true → after ≡ samples_from (length samples) format s
+  pub taken-samples : is_ok r ≡ true → after ≡ samples_from (length samples) format s
   unfolding taken_from decide
   taken-samples e = d.lent_is ∙ rw (sym taken_answer_lem ∙ e)

@@ -1,35 +1,24 @@
 -- How a run starts: 30 for the arguments, then the reader's refusals, then 26 for the length to be written.
-use Rattle.std.specs.Prelude.{cond, List, ℕ, ◌*◌, ◌/◌, eqb, ltb}
-use Rattle.answers.specs.Answer.{Answer, accepted, refused}
+use Rattle.std.specs.Prelude.{cond, List, ℕ, ◌*◌, ◌/◌, eqb, ltb, Option, Some, None, Result}
+use Rattle.answers.specs.Answer.{Answer, accepted, refused, plain, answered}
+use Rattle.answers.specs.declared.refused.Refused.{Refused}
 use Rattle.answers.specs.Unit.{largest_data}
 use Rattle.samples.specs.Channels.{count_of}
-use Rattle.samples.specs.declared.channels.Channels.{Channels}
-use Rattle.samples.specs.declared.format.Format.{Format}
 use Rattle.wave_values.specs.Values.{frame_size}
-use Rattle.wave.specs.Walk.{Found, read_of}
+use Rattle.wave.specs.declared.found.Found.{Found}
+use Rattle.wave.specs.Walk.{read_of}
 use Rattle.wave.specs.Walk as wave
-use Rattle.arguments.specs.declared.taking.Arguments.{Arguments}
-use Rattle.arguments.specs.declared.taking.Arguments.TheVariants as arguments
 use Rattle.arguments.specs.Arguments.{bands}
 use Rattle.eqfile.specs.declared.refusal.Refusal.{Refusal}
 use Rattle.eqfile.specs.declared.refusal.Refusal.TheVariants as refusal
-use Rattle.eqfile.specs.declared.start.Start.{Start}
-use Rattle.eqfile.specs.declared.start.Start.TheVariants.{Run, Refused}
+use Rattle.eqfile.specs.declared.plan.Plan.{Plan}
 
--- rule 10.6: a run: rate, format and channels of the file, its number of frames, and where their bytes start
-pub record Plan : Type 0 where
-  pub rate : ℕ
-  pub format : Format
-  pub channels : Channels
-  pub frames : ℕ
-  pub start : ℕ
-
--- the rule book's number of a refusal
-abbrev pub number_of : Refusal → ℕ
-number_of refusal.Arguments = 30
-number_of (refusal.Header r) = wave.number_of r
-number_of refusal.TooLong = 26
-number_of refusal.NotNumber = 41
+-- rule 6.8: the rule book's number of a refusal, and its place: none
+abbrev pub refusal_of : Refusal → Refused
+refusal_of refusal.Arguments = plain 30
+refusal_of (refusal.Header r) = wave.refusal_of r
+refusal_of refusal.TooLong = plain 26
+refusal_of refusal.NotNumber = plain 41
 
 -- rule 10.6: the frames in the data, if a header can state the bytes that they are written in
 abbrev pub plan_for : Found → Answer Plan
@@ -45,13 +34,11 @@ plan_of (accepted f) = plan_for f
 plan_of (refused n p) = refused n p
 
 -- rules 10.3, 10.5: first 30: refused arguments, and any other number than eight
-unfoldable pub start_of : Arguments → List ℕ → Answer Plan
+unfoldable pub start_of : Option ℕ → List ℕ → Answer Plan
 unfolding plan_of
-start_of (arguments.Taken n) front = cond (eqb n bands) (plan_of (read_of front)) (refused 30 0)
-start_of arguments.Refused front = refused 30 0
+start_of (Some n) front = cond (eqb n bands) (plan_of (read_of front)) (refused 30 0)
+start_of None front = refused 30 0
 
--- in the rule book's numbers
-abbrev pub start_answer : Start → Answer Plan
-start_answer (Run rate format channels frames start) =
-    accepted (record { rate = rate; format = format; channels = channels; frames = frames; start = start })
-start_answer (Refused r) = refused (number_of r) 0
+-- rule 6.8: in the rule book's numbers
+abbrev pub start_answer : Result Plan Refusal → Answer Plan
+start_answer = answered refusal_of

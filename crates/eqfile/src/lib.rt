@@ -4,12 +4,14 @@
 
 mod data;
 mod front;
+mod plan;
 mod refusal;
 mod start;
 mod turn;
 
 pub use data::samples_from;
 pub use front::carry;
-pub use refusal::{Refusal, number};
-pub use start::{Start, begin};
-pub use turn::{Turn, fed_in_all, next_turn, pad_after, short};
+pub use plan::Plan;
+pub use refusal::Refusal;
+pub use start::begin;
+pub use turn::Turn;

@@ -1,8 +1,12 @@
 // Why a run does not start, or stops, and the page's numbers for it.
+ghost use Rattle.std.proofs.Common.{rules};
 ghost use Rattle.std.specs.Prelude.{◌≡◌};
-ghost use Rattle.eqfile.specs.Start.{number_of};
+ghost use Rattle.eqfile.specs.Start.{refusal_of};
+ghost use Rattle.eqfile.specs.declared.refusal.Refusal.TheVariants.{Header};
 
-#[derive(Clone, Copy)]
+use answers::refused::{Numbered, Refused};
+
+#[derive(Clone, Copy, Debug, PartialEq, Eq)]
 pub enum Refusal {
     // 30
     Arguments,
@@ -14,14 +18,25 @@ pub enum Refusal {
     NotNumber,
 }
 
-// The page's number of a refusal.
-pub fn number(refusal: Refusal) -> u64
-    ensures { result ≡ number_of refusal }
-{
-    match refusal {
-        Refusal::Header(refused) => wave::number(refused) as u64,
-        Refusal::TooLong => 26,
-        Refusal::Arguments => 30,
-        Refusal::NotNumber => 41,
+impl From<wave::Refusal> for Refusal {
+    ghost from_gives = { λ header refusal. refusal ≡ Header header };
+
+    fn from(header: wave::Refusal) -> Refusal {
+        Refusal::Header(header)
+    }
+}
+
+impl Numbered for Refusal {
+    ghost refusal = { refusal_of };
+
+    ghost has_number = { Prim.search rules };
+
+    fn refused(self) -> Refused {
+        match self {
+            Refusal::Arguments => Refused::plain(30),
+            Refusal::Header(header) => header.refused(),
+            Refusal::TooLong => Refused::plain(26),
+            Refusal::NotNumber => Refused::plain(41),
+        }
     }
 }

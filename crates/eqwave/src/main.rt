@@ -4,10 +4,8 @@
 ghost use Rattle.eqwave.specs.Started.{Before};
 
 use answers::unit::FRONT_LENGTH;
-use arguments::Arguments;
-use eqfile::Start;
 use std::io::Read;
-use turning::place::Job;
+use turning::place::Run;
 
 mod run;
 mod say;
@@ -26,28 +24,14 @@ fn main(rt: HostRuntime) {
 fn begin(
     rt: &(impl Print + Eprint),
     stdin: &mut impl Read,
-    arguments: Arguments,
+    arguments: Option<usize>,
     front: &[u8],
     gains: &[i32],
 )
     requires { Before arguments front.now gains.now }
 {
     match eqfile::begin(arguments, front) {
-        Start::Refused(refusal) => say::refused(rt, refusal),
-        Start::Run {
-            rate,
-            format,
-            channels,
-            frames,
-            start,
-        } => {
-            let job = Job {
-                format,
-                channels,
-                frames,
-                start,
-            };
-            run::run(rt, stdin, rate, job, gains, front)
-        }
+        Ok(plan) => run::run(rt, stdin, Run { plan, gains, front }),
+        Err(refusal) => say::refused(rt, refusal),
     }
 }

@@ -1,4 +1,5 @@
 // Lines on standard error. Where it takes none, nothing more can be said.
+use answers::refused::Numbered;
 use eqfile::Refusal;
 use std::io;
 use std::io::Write;
@@ -10,7 +11,7 @@ pub(crate) fn line(rt: &impl Eprint, word: &str, n: u64) {
 
 // The number of a refusal.
 pub(crate) fn refused(rt: &impl Eprint, refusal: Refusal) {
-    line(rt, "refused ", eqfile::number(refusal));
+    line(rt, "refused ", u64::from(refusal.refused().number));
 }
 
 // The system's words, without the number that stands behind them.

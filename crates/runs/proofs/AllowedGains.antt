@@ -12,8 +12,7 @@ use Rattle.answers.specs.Answer.{Answer, accepted, refused}
 use Rattle.answers.specs.Unit.{largest_gain}
 use Rattle.answers.specs.Range.{within, all_within}
 use Rattle.answers.proofs.Ranges.{cons_all}
-use Rattle.arguments.specs.declared.half.Argument.{Argument}
-use Rattle.arguments.specs.declared.half.Argument.TheVariants.{Gain, Refused}
+use Rattle.std.specs.Prelude.{Option, Some, None}
 use Rattle.arguments.specs.Argument.{argument_of}
 use Rattle.arguments.specs.Arguments.{bands, with, each_gain, arguments_of}
 use Rattle.arguments.proofs.ArgumentGain.{gain_small}
@@ -23,7 +22,7 @@ use Rattle.runs.proofs.NeverRefused.{Allowed}
 refuses : {A : Type 0} {B : Type 0} {k p : ℕ} {b : B} → refused k p ≡ accepted b → A
 refuses e = let z : ◌≡◌ {A = ℕ} 0 1 = cc in absurd (omega arith)
 
-gain_within : (s : List ℕ) (g : ℤ) → argument_of s ≡ Gain g → within (pos 0) (pos largest_gain) g ≡ true
+gain_within : (s : List ℕ) (g : ℤ) → argument_of s ≡ Some g → within (pos 0) (pos largest_gain) g ≡ true
 gain_within s g e =
     let l = gain_small s g (sym e) in
     rw (l.1.0, le-ltb l.0 0 (omega arith)) (le-leb l.0 largest_gain l.1.1)
@@ -34,14 +33,14 @@ unfolding each_gain
 each_allowed [] gs e = let r : gs ≡ [] = cc in rw r (refl, none_within (pos 0) (pos largest_gain))
 each_allowed (text ∷ texts) gs e = by (argument_of text) (gain_within text) (each_gain texts) (each_allowed texts) e
   where
-    by : (a : Argument) → ((g : ℤ) → a ≡ Gain g → within (pos 0) (pos largest_gain) g ≡ true) → (b : Answer (List ℤ)) →
+    by : (a : Option ℤ) → ((g : ℤ) → a ≡ Some g → within (pos 0) (pos largest_gain) g ≡ true) → (b : Answer (List ℤ)) →
         ((gs : List ℤ) → b ≡ accepted gs → (length gs ≡ length texts) × (all_within (pos 0) (pos largest_gain) gs ≡ true)) →
         with a b ≡ accepted gs → (length gs ≡ suc (length texts)) × (all_within (pos 0) (pos largest_gain) gs ≡ true)
-    by (Gain g) one (accepted hs) more e =
+    by (Some g) one (accepted hs) more e =
         let r : gs ≡ g ∷ hs = cc in
         rw r (ap suc (more hs refl).0, cons_all (pos 0) (pos largest_gain) g hs (one g refl) (more hs refl).1)
-    by (Gain g) one (refused k p) more e = refuses e
-    by Refused one b more e = refuses e
+    by (Some g) one (refused k p) more e = refuses e
+    by None one b more e = refuses e
 
 pub arguments_allowed : (texts : List (List ℕ)) (gains : List ℤ) → arguments_of texts ≡ accepted gains → Allowed gains
 unfolding arguments_of

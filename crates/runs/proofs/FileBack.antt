@@ -21,11 +21,13 @@ use Rattle.wave_values.specs.Values.{frame_size, known_rate}
 use Rattle.wave.specs.Walk.{read_of}
 use Rattle.wave.proofs.Unread.{past_4096}
 use Rattle.wave_writer.specs.Header.{header}
-use Rattle.wave_writer.specs.declared.writer.Written.{Written}
+use Rattle.std.specs.Prelude.{Result}
+use Rattle.wave_writer.specs.declared.writer.WriteError.{WriteError}
 use Rattle.wave_writer.proofs.Writing.{write_accepts}
 use Rattle.wave_writer.proofs.RoundTrips.{found_in, header-read-back}
 use Rattle.arguments.specs.Arguments.{bands}
-use Rattle.eqfile.specs.Start.{Plan, plan_of}
+use Rattle.eqfile.specs.declared.plan.Plan.{Plan}
+use Rattle.eqfile.specs.Start.{plan_of}
 use Rattle.eqfile.proofs.StartOrder.{to_be_written, eight}
 use Rattle.runs.specs.Program.{fresh, handed, ByPlan}
 use Rattle.runs.specs.Started.{Started, file_of}
@@ -62,16 +64,17 @@ module _ (rate : ℕ) (channels : Channels) (frames : ℕ) (samples : List ℕ) 
       let is = write_accepts buffer rate size channels refl known (ap (λ (n : ℕ). n % (count * 3)) in-frames ∙ mul-mod_right (count * 3) frames) small in
       past_4096 front padded_file (take-take front_length front_length padded_file (lit≤ tt)) ∙
       header-read-back buffer (header rate size count) (samples ++ pad size) 44 rate size channels
-      (record { result_is = sym (ap (λ (o : Outcome Written (List ℕ)). o.result) is); lent_is = sym (ap (λ (o : Outcome Written (List ℕ)). o.lent) is) })
+      (record { result_is = sym (ap (λ (o : Outcome (Result ℕ WriteError) (List ℕ)). o.result) is); lent_is = sym (ap (λ (o : Outcome (Result ℕ WriteError) (List ℕ)). o.lent) is) })
 
   -- with eight noughts its front starts a run
   pub noughts_start : Started (replicate bands (pos unity)) front rate Bits24 channels frames 44
+  unfolding plan_of
   noughts_start =
       let frame = frame_size count Bits24 in
       let all = counted channels frames in
       let plan : ℕ → Answer Plan = λ n. accepted (record { rate = rate; format = Bits24; channels = channels; frames = n; start = 44 }) in
       let planned : plan frames ≡ plan_of (read_of front) =
-      ap plan (sym all) ∙ to_be_written rate Bits24 channels size 44 frame count refl refl (rw all (few channels frames small)) ∙ ap plan_of (sym front_read) in
+      ap plan (sym all) ∙ to_be_written (found_in rate size channels) frame count refl refl (rw all (few channels frames small)) ∙ ap plan_of (sym front_read) in
       record {
         texts = replicate bands (48 ∷ []);
         taken = noughts_are_unity;

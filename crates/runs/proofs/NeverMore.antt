@@ -10,8 +10,9 @@ use Rattle.answers.specs.Answer.{Answer, accepted, refused}
 use Rattle.answers.specs.Unit.{largest_data}
 use Rattle.samples.specs.Channels.{count_of}
 use Rattle.wave_values.specs.Values.{frame_size}
-use Rattle.wave.specs.Walk.{Found}
-use Rattle.eqfile.specs.Start.{Plan, plan_for}
+use Rattle.wave.specs.declared.found.Found.{Found}
+use Rattle.eqfile.specs.declared.plan.Plan.{Plan}
+use Rattle.eqfile.specs.Start.{plan_for}
 use Rattle.eqfile.specs.Turn.{all_read, wanted_of, turn_of}
 
 -- what was read for each block in turn: never more than was asked

@@ -8,6 +8,7 @@ use native.Mathlib.Omega.{arith}
 use borrow.Author.Tests.{eq-eqb, le-leb, le-ltb}
 use lib.ListN.{length, drop, replicate, length-replicate}
 use lib.IntN.{ℤ, pos}
+use Rattle.std.specs.Prelude.{Some, Result, Ok}
 use Rattle.answers.specs.Checks.{all_hold, Outcome}
 use Rattle.answers.specs.Range.{all_within}
 use Rattle.answers.specs.Unit.{block_limit, turn_room, largest_gain}
@@ -16,8 +17,7 @@ use Rattle.lines.specs.Cascade.{Ran, run}
 use Rattle.lines.proofs.Lengths.{run_places}
 use Rattle.frames.specs.Frames.{side_of, behind, places_of}
 use Rattle.frames.proofs.Laws.{behind-length, places_length}
-use Rattle.octave.specs.declared.block.Blocked.{Blocked}
-use Rattle.octave.specs.declared.block.Blocked.TheVariants.{Written}
+use Rattle.octave.specs.declared.block.BlockError.{BlockError}
 use Rattle.octave.specs.Memory.{line_length, side_places, memory_of, prepared, accepts}
 use Rattle.octave.specs.Block.{frames_of, block_checks, equalised}
 use Rattle.octave.proofs.Memories.{accepts_is}
@@ -26,7 +26,6 @@ use Rattle.samples.specs.Channels.{count_of}
 use Rattle.samples.specs.declared.channels.Channels.{Channels}
 use Rattle.samples.specs.Samples.{bytes_of}
 use Rattle.wave_writer.proofs.Counts.{count_allowed_lem}
-use Rattle.blocks.specs.declared.block.Equalised.TheVariants.{Bytes}
 use Rattle.arguments.specs.Arguments.{bands}
 use Rattle.blocks.specs.Equalise.{zeros, block_for, equalise_of}
 use Rattle.blocks.proofs.Outputs.{all_in_range, equalised_long, held_ran, held_whole}
@@ -94,11 +93,11 @@ module _ (channels : Channels) where
 
   -- what a block of the program comes to
   pub record BlockTaken (m gains input : List ℤ) (skipped : ℕ) (stored : List ℕ) : Type 0 where
-    pub accepts : (block_for m gains input).result ≡ Written (frames_of m input)
+    pub accepts : (block_for m gains input).result ≡ Ok (frames_of m input)
     pub long : length (block_for m gains input).lent.1 ≡ length input
     pub ready : Ready channels (block_for m gains input).lent.0
     pub is : equalise_of m gains input skipped stored ≡
-        record { result = Bytes (length stored); lent = ((block_for m gains input).lent.0, bytes_of (drop skipped (block_for m gains input).lent.1)) }
+        record { result = Some (length stored); lent = ((block_for m gains input).lent.0, bytes_of (drop skipped (block_for m gains input).lent.1)) }
 
   pub block_taken : (m gains input : List ℤ) (skipped : ℕ) (stored : List ℕ) → Ready channels m → Allowed gains → length input % count_of channels ≡ 0 → length input ≤ turn_room →
       all_in_range input ≡ true → skipped ≤ length input → length stored ≡ 3 * (length input - skipped) → BlockTaken m gains input skipped stored
@@ -106,8 +105,8 @@ module _ (channels : Channels) where
       let held = checks_hold m gains input (zeros input) s g (length-replicate (length input) (pos 0)) framed (omega arith) range in
       let ran = held_ran m gains input (zeros input) held in
       record {
-        accepts = ap (λ (b : Outcome Blocked (List ℤ × List ℤ)). b.result) ran;
-        long = ap (λ (b : Outcome Blocked (List ℤ × List ℤ)). length b.lent.1) ran ∙ equalised_long m gains input (held_whole m gains input (zeros input) held);
-        ready = subst (λ (b : Outcome Blocked (List ℤ × List ℤ)). Ready channels b.lent.0) (sym ran) (still_ready m gains input s);
+        accepts = ap (λ (b : Outcome (Result ℕ BlockError) (List ℤ × List ℤ)). b.result) ran;
+        long = ap (λ (b : Outcome (Result ℕ BlockError) (List ℤ × List ℤ)). length b.lent.1) ran ∙ equalised_long m gains input (held_whole m gains input (zeros input) held);
+        ready = subst (λ (b : Outcome (Result ℕ BlockError) (List ℤ × List ℤ)). Ready channels b.lent.0) (sym ran) (still_ready m gains input s);
         is = equalised_is m gains input skipped stored (record { short = short; within = within; fit = fits }) held;
       }

@@ -19,7 +19,7 @@ use Rattle.samples.specs.Sample.{is_sample_in}
 use Rattle.samples.specs.Samples.{pieces_of, first_bad, all_samples}
 use Rattle.samples.specs.declared.channels.Channels.{Channels}
 use Rattle.samples.specs.declared.format.Format.{Format}
-use Rattle.samples.proofs.Judging.{length_pieces}
+use Rattle.samples.proofs.Pieces.{length_pieces}
 use Rattle.eqfile.specs.Data.{there_of, numbers_from}
 use Rattle.eqfile.specs.Turn.{late, fed_in_all, turn_of}
 use Rattle.eqfile.proofs.Turns.{wanted_few}

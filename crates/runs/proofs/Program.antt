@@ -8,6 +8,7 @@ use native.Mathlib.Omega.{arith}
 use lib.ListN.{length, drop, replicate, length-append, length-replicate, drop_of_length-le}
 use lib.Seq.{drop-nil, drop-length, drop-append-le, drop-append-add}
 use lib.IntN.{ℤ}
+use Rattle.std.specs.Prelude.{Option, Some}
 use Rattle.frames.specs.Frames.{side_of}
 use Rattle.frames.proofs.Laws.{woven-length}
 use Rattle.octave.specs.Memory.{prepared}
@@ -24,8 +25,6 @@ use Rattle.samples.specs.declared.channels.Channels.{Channels}
 use Rattle.samples.specs.declared.channels.Channels.TheVariants.{One, Two}
 use Rattle.samples.specs.declared.format.Format.{Format}
 use Rattle.samples.proofs.Storing.{length_bytes, bytes_append}
-use Rattle.blocks.specs.declared.block.Equalised.{Equalised}
-use Rattle.blocks.specs.declared.block.Equalised.TheVariants.{Bytes}
 use Rattle.arguments.specs.Arguments.{bands, arguments_of}
 use Rattle.eqfile.specs.Data.{samples_from}
 use Rattle.eqfile.specs.Turn.{late, turn_of}
@@ -82,7 +81,7 @@ module _ (gains : List ℤ) (allowed : Allowed gains) (format : Format) (channel
   next_ready : (s : State) (u : List ℕ) → Ready channels s.memory → Follows format channels frames s u → Ready channels (next gains format channels frames s u).memory
   next_ready s u r f =
       let d = turn_taken s u r f in
-      subst (λ (b : Outcome Equalised (List ℤ × List ℕ)). Ready channels b.lent.0) (sym d.is) d.ready
+      subst (λ (b : Outcome (Option ℕ) (List ℤ × List ℕ)). Ready channels b.lent.0) (sym d.is) d.ready
 
   -- wherever a run stands, the next block finds a memory that it takes
   pub after_ready : (s : State) (us : List (List ℕ)) → Ready channels s.memory → Followed gains format channels frames s us → Ready channels (after gains format channels frames s us).memory
@@ -95,7 +94,7 @@ module _ (gains : List ℤ) (allowed : Allowed gains) (format : Format) (channel
   all_accepted s [] r h = tt
   all_accepted s (u ∷ us) r h =
       let d = turn_taken s u r h.0 in
-      let same = ap (λ (b : Outcome Equalised (List ℤ × List ℕ)). b.lent.0) d.is in
+      let same = ap (λ (b : Outcome (Option ℕ) (List ℤ × List ℕ)). b.lent.0) d.is in
       (ap block_answer d.accepts, subst (λ (m : List ℤ). AllAccepted m (calls gains format channels frames (next gains format channels frames s u) us)) same (all_accepted (next gains format channels frames s u) us (next_ready s u r h.0) h.1))
 
   all_written : (s : State) (us : List (List ℕ)) → Ready channels s.memory → Followed gains format channels frames s us →
@@ -111,12 +110,12 @@ module _ (gains : List ℤ) (allowed : Allowed gains) (format : Format) (channel
       let b = block_for s.memory gains input in
       let d = turn_taken s u r h.0 in
       let n = next gains format channels frames s u in
-      let same = ap (λ (b : Outcome Equalised (List ℤ × List ℕ)). b.lent.0) d.is in
+      let same = ap (λ (b : Outcome (Option ℕ) (List ℤ × List ℕ)). b.lent.0) d.is in
       let rest = (played b.lent.0 (calls gains format channels frames n us)).output in
       let long : length b.lent.1 ≡ c * t.fed = d.long ∙ length_from (c * t.fed) format u in
       let dropped : c * t.skipped ≡ min (length b.lent.1) (c * early) = scaled channels t.fed early ∙ ap (λ (k : ℕ). min k (c * early)) (sym long) in
       let left : c * then ≡ c * early - length b.lent.1 = ap (λ (k : ℕ). c * k) (omega arith) ∙ mul-sub c early t.fed ∙ ap (λ (k : ℕ). c * early - k) (sym long) in
-      ap₂ ◌++◌ (ap (λ (b : Outcome Equalised (List ℤ × List ℕ)). b.lent.1) d.is)
+      ap₂ ◌++◌ (ap (λ (b : Outcome (Option ℕ) (List ℤ × List ℕ)). b.lent.1) d.is)
       (all_written n us (next_ready s u r h.0) h.1 ∙
       ap (λ (m : List ℤ). bytes_of (drop (c * then) (played m (calls gains format channels frames n us)).output)) same) ∙
       sym (bytes_append (drop (c * t.skipped) b.lent.1) (drop (c * then) rest)) ∙
@@ -135,13 +134,13 @@ same-gains gains format channels frames s (u ∷ us) = (refl, same-gains gains f
 module _ (texts : List (List ℕ)) (gains : List ℤ) (taken : arguments_of texts ≡ accepted gains) (format : Format) (channels : Channels) (frames : ℕ) (us : List (List ℕ)) where
   -- no block of a run is refused: it stores all that its turn writes
   pub block_accepted : Followed gains format channels frames (fresh channels) us → (u : List ℕ) → let s = after gains format channels frames (fresh channels) us in
-      Follows format channels frames s u → (block_done gains format channels frames s u).result ≡ Bytes (turn_at format channels frames s).written
+      Follows format channels frames s u → (block_done gains format channels frames s u).result ≡ Some (turn_at format channels frames s).written
   block_accepted h u f =
       let s = after gains format channels frames (fresh channels) us in
       let allowed = arguments_allowed texts gains taken in
-      ap (λ (b : Outcome Equalised (List ℤ × List ℕ)). b.result)
+      ap (λ (b : Outcome (Option ℕ) (List ℤ × List ℕ)). b.result)
       (turn_taken gains allowed format channels frames s u (after_ready gains allowed format channels frames (fresh channels) us (prepared_ready channels) h) f).is ∙
-      ap Bytes (length-replicate (turn_at format channels frames s).written 0)
+      ap (λ (n : ℕ). Some n) (length-replicate (turn_at format channels frames s).written 0)
 
   -- some turns of a run: what they hand over is as many of its outputs as the frames fed, but the delay, for the samples of the bytes read so far
   pub turns_write : Followed gains format channels frames (fresh channels) us → let at = (after gains format channels frames (fresh channels) us).at in

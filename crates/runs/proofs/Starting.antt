@@ -8,6 +8,7 @@ use native.Mathlib.Omega.{arith}
 use lib.Dec.{ltb}
 use lib.ListN.{length}
 use lib.IntN.{ℤ, pos}
+use Rattle.std.specs.Prelude.{Option, Some, Ok}
 use Rattle.frames.proofs.Laws.{whole_frames_lem}
 use Rattle.answers.specs.Answer.{Answer, accepted, refused}
 use Rattle.answers.specs.Unit.{largest_data, front_length}
@@ -15,16 +16,14 @@ use Rattle.wave_writer.specs.Header.{header, write_of}
 use Rattle.samples.specs.Channels.{count_of}
 use Rattle.samples.specs.declared.channels.Channels.{Channels}
 use Rattle.wave_values.specs.Values.{known_rate}
-use Rattle.wave.specs.Walk.{Found, read_of}
+use Rattle.wave.specs.declared.found.Found.{Found}
+use Rattle.wave.specs.Walk.{read_of}
 use Rattle.samples.specs.declared.format.Format.{Format}
-use Rattle.wave_writer.specs.declared.writer.Written.TheVariants.{Header}
 use Rattle.wave.proofs.Answers.{accepted_rate, accepted_whole, accepted_start}
 use Rattle.wave_writer.proofs.Writing.{write_accepts}
-use Rattle.arguments.specs.declared.taking.Arguments.{Arguments}
-use Rattle.arguments.specs.declared.taking.Arguments.TheVariants.{Taken}
-use Rattle.eqfile.specs.declared.start.Start.TheVariants.{Run}
 use Rattle.arguments.specs.Arguments.{bands, all_of, arguments_of}
-use Rattle.eqfile.specs.Start.{Plan, plan_for, plan_of, start_of, start_answer}
+use Rattle.eqfile.specs.declared.plan.Plan.{Plan}
+use Rattle.eqfile.specs.Start.{plan_for, plan_of, start_of, start_answer}
 use Rattle.eqfile.proofs.StartOrder.{Writable, writable}
 use Rattle.eqfile.proofs.AllArguments.{Promised, arguments_promise}
 use Rattle.runs.specs.Program.{frame_bytes}
@@ -34,16 +33,16 @@ clash : {A B : Type 0} {k p : ℕ} {b : B} → accepted b ≡ refused k p → A
 clash e = let z : ◌≡◌ {A = ℕ} 0 1 = cc in absurd (omega arith)
 
 -- what the program begins with: the arguments taken in turn into eight places, and a start that is a run
-pub started : (texts : List (List ℕ)) (before gains : List ℤ) (a : Arguments) (front : List ℕ) (rate : ℕ) (format : Format) (channels : Channels) (frames start : ℕ) → length before ≡ bands →
-    length front ≤ front_length → (a, gains) ≡ all_of (Taken 0, before) texts → start_answer (Run rate format channels frames start) ≡ start_of a front → Started gains front rate format channels frames start
+pub started : (texts : List (List ℕ)) (before gains : List ℤ) (a : Option ℕ) (front : List ℕ) (rate : ℕ) (format : Format) (channels : Channels) (frames start : ℕ) → length before ≡ bands →
+    length front ≤ front_length → (a, gains) ≡ all_of (Some 0, before) texts → start_answer (Ok (record { rate = rate; format = format; channels = channels; frames = frames; start = start })) ≡ start_of a front → Started gains front rate format channels frames start
 started texts before gains a front rate format channels frames start eight few all begins = by (arguments_of texts) refl (arguments_promise texts before eight)
   where
-    by : (q : Answer (List ℤ)) → arguments_of texts ≡ q → Promised q (all_of (Taken 0, before) texts) → Started gains front rate format channels frames start
+    by : (q : Answer (List ℤ)) → arguments_of texts ≡ q → Promised q (all_of (Some 0, before) texts) → Started gains front rate format channels frames start
     by (accepted gs) e p =
-        let same : gains ≡ gs = ap (λ (s : Arguments × List ℤ). s.1) (all ∙ p) in
-        let done : a ≡ Taken bands = ap (λ (s : Arguments × List ℤ). s.0) (all ∙ p) in
-        record { texts = texts; taken = e ∙ ap accepted (sym same); few = few; begins = begins ∙ ap (λ (x : Arguments). start_of x front) done }
-    by (refused k n) e p = clash (begins ∙ ap (λ (s : Arguments × List ℤ). start_of s.0 front) all ∙ p front)
+        let same : gains ≡ gs = ap (λ (s : Option ℕ × List ℤ). s.1) (all ∙ p) in
+        let done : a ≡ Some bands = ap (λ (s : Option ℕ × List ℤ). s.0) (all ∙ p) in
+        record { texts = texts; taken = e ∙ ap accepted (sym same); few = few; begins = begins ∙ ap (λ (x : Option ℕ). start_of x front) done }
+    by (refused k n) e p = clash (begins ∙ ap (λ (s : Option ℕ × List ℤ). start_of s.0 front) all ∙ p front)
 
 -- ---- what the header states
 
@@ -92,7 +91,7 @@ module _ {gains : List ℤ} {front : List ℕ} {rate : ℕ} {format : Format} {c
   unfolding start_of plan_of
   stated = by (read_of front) refl s.begins
     where
-      by : (a : Answer Found) → read_of front ≡ a → start_answer (Run rate format channels frames start) ≡ plan_of a → Stated front rate format channels frames start
+      by : (a : Answer Found) → read_of front ≡ a → start_answer (Ok (record { rate = rate; format = format; channels = channels; frames = frames; start = start })) ≡ plan_of a → Stated front rate format channels frames start
       by (accepted f) read e = stated_plan front f read rate format channels frames start e
       by (refused k n) read e = clash e
 
@@ -101,12 +100,12 @@ module _ {gains : List ℤ} {front : List ℕ} {rate : ℕ} {format : Format} {c
   start_within = subst (λ (n : ℕ). n ≤ front_length) stated.start_is (accepted_start front stated.found stated.read)
 
   pub few_enough : 3 * (count_of channels * frames) ≤ largest_data
-  few_enough = subst Writable (sym s.begins) (writable (Taken bands) front)
+  few_enough = subst Writable (sym s.begins) (writable (Some bands) front)
 
   -- the writer accepts the rate, the length and the channels of every run that starts, and writes just its header
   pub header_accepted : (buffer : List ℕ) → length buffer ≡ 44 →
       let size = 3 * (count_of channels * frames) in
-      write_of buffer rate size (pos (count_of channels)) ≡ record { result = Header 44; lent = header rate size (count_of channels) }
+      write_of buffer rate size (pos (count_of channels)) ≡ record { result = Ok 44; lent = header rate size (count_of channels) }
   header_accepted buffer l =
       let count = count_of channels in
       let in-frames : 3 * (count * frames) ≡ count * 3 * frames = omega arith in

@@ -2,7 +2,7 @@
 use mathlib.Core.Path.{◌≡◌, refl, sym, ap, ◌∙◌}
 use mathlib.Core.Bool.{Bool, true, false, cond, true≢false}
 use mathlib.Core.List.{List, ◌++◌}
-use Prim.Native.Nat.{ℕ, zero, suc, ◌+◌, ◌-◌, ◌*◌, ◌/◌, ◌<◌, min}
+use Prim.Native.Nat.{ℕ, zero, suc, ◌-◌, ◌*◌, ◌/◌, ◌<◌, min}
 use native.Mathlib.Nat.{mul-zero}
 use native.Mathlib.Omega.{arith}
 use borrow.Author.Tests.{eqb-true, le-leb}
@@ -15,7 +15,8 @@ use Rattle.samples.specs.Samples.{first_bad, bytes_of}
 use Rattle.samples.specs.declared.channels.Channels.{Channels}
 use Rattle.samples.specs.declared.format.Format.{Format}
 use Rattle.samples.specs.declared.format.Format.TheVariants.{Bits16, Bits24, Float32}
-use Rattle.samples.proofs.Judging.{all_16, all_24}
+use Rattle.samples.specs.Sample.{is_sample_in}
+use Rattle.samples.proofs.Pieces.{all_passed}
 use Rattle.wave_writer.specs.Header.{header}
 use Rattle.eqfile.specs.Data.{there_of, samples_from, numbers_from}
 use Rattle.eqfile.specs.Turn.{late, all_read, wanted_of, turn_of}
@@ -30,9 +31,9 @@ use Rattle.runs.proofs.Program.{turns_write}
 
 -- samples of whole numbers are all numbers
 pub whole_numbers : (n : ℕ) (format : Format) (s : List ℕ) → size_of format < 4 → numbers_from n format s ≡ true
-unfolding numbers_from
-whole_numbers n Bits16 s few = let k = there_of n Bits16 s in le-leb k (first_bad k Bits16 s) (omega (arith, all_16 k s))
-whole_numbers n Bits24 s few = let k = there_of n Bits24 s in le-leb k (first_bad k Bits24 s) (omega (arith, all_24 k s))
+unfolding numbers_from is_sample_in
+whole_numbers n Bits16 s few = let k = there_of n Bits16 s in le-leb k (first_bad k Bits16 s) (omega (arith, all_passed (is_sample_in Bits16) (λ t. refl) k 2 s))
+whole_numbers n Bits24 s few = let k = there_of n Bits24 s in le-leb k (first_bad k Bits24 s) (omega (arith, all_passed (is_sample_in Bits24) (λ t. refl) k 3 s))
 whole_numbers n Float32 s few = absurd (omega arith)
 
 -- no bytes, no sample that is none

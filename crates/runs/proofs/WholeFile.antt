@@ -18,7 +18,8 @@ use Rattle.wave_writer.specs.Header.{riff_size, header}
 use Rattle.wave.specs.Walk.{read_of}
 use Rattle.samples.specs.declared.format.Format.{Format}
 use Rattle.samples.specs.declared.format.Format.TheVariants.{Bits24}
-use Rattle.wave_writer.specs.declared.writer.Written.{Written}
+use Rattle.std.specs.Prelude.{Result}
+use Rattle.wave_writer.specs.declared.writer.WriteError.{WriteError}
 use Rattle.wave_writer.proofs.Writing.{length-header}
 use Rattle.wave_writer.proofs.RoundTrips.{found_in, header-read-back}
 use Rattle.runs.specs.Program.{fresh, handed, ByPlan, program_writes, frames_out, samples_read}
@@ -63,7 +64,7 @@ module _ {gains : List ℤ} {front : List ℕ} {rate : ℕ} {format : Format} {c
       let buffer : List ℕ = replicate 44 0 in
       let is = header_accepted s buffer refl in
       header-read-back buffer head body 44 rate size channels
-      (record { result_is = sym (ap (λ (o : Outcome Written (List ℕ)). o.result) is); lent_is = sym (ap (λ (o : Outcome Written (List ℕ)). o.lent) is) })
+      (record { result_is = sym (ap (λ (o : Outcome (Result ℕ WriteError) (List ℕ)). o.result) is); lent_is = sym (ap (λ (o : Outcome (Result ℕ WriteError) (List ℕ)). o.lent) is) })
 
   -- .. and its samples, in as many bytes as that says, are the outputs
   pub file_samples_back : samples_read Bits24 channels frames (take size (drop 44 (file_of gains rate format channels frames us))) ≡

@@ -1,5 +1,5 @@
 -- A whole run of the program, turn after turn: what it reads and what it writes after the header.
-use Rattle.std.specs.Prelude.{◌≡◌, Bool, true, List, [], ◌∷◌, ◌++◌, ℕ, ◌+◌, ◌*◌, ◌≤◌, length, take, drop, replicate, ℤ}
+use Rattle.std.specs.Prelude.{◌≡◌, Bool, true, List, [], ◌∷◌, ◌++◌, ℕ, ◌+◌, ◌*◌, ◌≤◌, length, take, drop, replicate, ℤ, Option}
 use Rattle.answers.specs.Checks.{Outcome}
 use Rattle.fields.specs.Bytes.{Bytes}
 use Rattle.frames.specs.Frames.{side_of, woven}
@@ -12,7 +12,6 @@ use Rattle.samples.specs.Channels.{count_of}
 use Rattle.samples.specs.declared.channels.Channels.{Channels}
 use Rattle.samples.specs.declared.format.Format.{Format}
 use Rattle.wave_values.specs.Values.{frame_size}
-use Rattle.blocks.specs.declared.block.Equalised.{Equalised}
 use Rattle.eqfile.specs.declared.turn.Turn.{Turn}
 use Rattle.arguments.specs.Arguments.{bands}
 use Rattle.eqfile.specs.Data.{samples_from, numbers_from}
@@ -63,7 +62,7 @@ module _ (format : Format) (channels : Channels) (frames : ℕ) where
 
 module _ (gains : List ℤ) (format : Format) (channels : Channels) (frames : ℕ) where
   -- rule 10.16: the block of a turn that read some bytes
-  abbrev pub block_done : State → List ℕ → Outcome Equalised (List ℤ × List ℕ)
+  abbrev pub block_done : State → List ℕ → Outcome (Option ℕ) (List ℤ × List ℕ)
   block_done s u =
       let t = turn_at format channels frames s in
       equalise_of s.memory gains (turn_samples format channels frames s u) (count_of channels * t.skipped) (replicate t.written 0)

@@ -1,5 +1,5 @@
 -- A run that has started.
-use Rattle.std.specs.Prelude.{◌≡◌, List, ◌++◌, ℕ, ◌*◌, ◌≤◌, length, ℤ}
+use Rattle.std.specs.Prelude.{◌≡◌, List, ◌++◌, ℕ, ◌*◌, ◌≤◌, length, ℤ, Some, Ok}
 use Rattle.answers.specs.Answer.{accepted}
 use Rattle.answers.specs.Unit.{front_length}
 use Rattle.chunks.specs.Walk.{pad}
@@ -7,8 +7,6 @@ use Rattle.wave_writer.specs.Header.{header}
 use Rattle.samples.specs.Channels.{count_of}
 use Rattle.samples.specs.declared.channels.Channels.{Channels}
 use Rattle.samples.specs.declared.format.Format.{Format}
-use Rattle.arguments.specs.declared.taking.Arguments.TheVariants.{Taken}
-use Rattle.eqfile.specs.declared.start.Start.TheVariants.{Run}
 use Rattle.arguments.specs.Arguments.{bands, arguments_of}
 use Rattle.eqfile.specs.Start.{start_of, start_answer}
 use Rattle.runs.specs.Program.{fresh, program_writes}
@@ -18,7 +16,7 @@ pub record Started (gains : List ℤ) (front : List ℕ) (rate : ℕ) (format : 
   pub texts : List (List ℕ)
   pub taken : arguments_of texts ≡ accepted gains
   pub few : length front ≤ front_length
-  pub begins : start_answer (Run rate format channels frames start) ≡ start_of (Taken bands) front
+  pub begins : start_answer (Ok (record { rate = rate; format = format; channels = channels; frames = frames; start = start })) ≡ start_of (Some bands) front
 
 -- rule 10.8: what a run writes behind the header: what its turns hand over, and the pad
 abbrev pub body_of : (gains : List ℤ) (format : Format) (channels : Channels) (frames : ℕ) → List (List ℕ) → List ℕ

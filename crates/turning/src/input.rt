@@ -6,6 +6,7 @@ ghost use Rattle.runs.specs.Program.{Fetched};
 use std::io::Read;
 
 // Fills the bytes from standard input, and answers how many came. A read that fails is its end.
+// A loop: the library's methods read all or nothing, or onto a heap, and here as much as comes is wanted.
 pub fn fill(stdin: &mut impl Read, bytes: &mut [u8]) -> usize
     ensures { result ≤ length bytes.new }
 {

@@ -5,41 +5,28 @@ ghost use Rattle.chunks.specs.Walk.{pad};
 ghost use Rattle.wave_writer.specs.Header.{header};
 ghost use Rattle.turning.specs.Running.{Due, Ended};
 
-use crate::place::Job;
-use samples::Channels;
+use crate::place::Run;
+use eqfile::Plan;
 use std::io;
 
-// The header of so many frames. It fails where standard output does not take it.
-pub fn hand_header(
-    rt: &impl Print,
-    bytes: &[u8],
-    rate: u32,
-    channels: Channels,
-    frames: u32,
-) -> io::Result<()>
-    requires { bytes.now ≡ header rate (3 * (count_of channels * frames)) (count_of channels) }
+// The header of the plan's frames. It fails where standard output does not take it.
+pub fn hand_header(rt: &impl Print, bytes: &[u8], plan: Plan) -> io::Result<()>
+    requires { bytes.now ≡ header plan.rate (3 * (count_of plan.channels * plan.frames)) (count_of plan.channels) }
 {
     rt.write_all(bytes)
 }
 
 // What a turn's block stored. It fails where standard output does not take it.
-pub fn hand(rt: &impl Print, bytes: &[u8], job: Job, gains: &[i32], front: &[u8]) -> io::Result<()>
-    requires { Due job gains.now front.now bytes.now }
+pub fn hand(rt: &impl Print, bytes: &[u8], run: Run) -> io::Result<()>
+    requires { Due run.plan run.gains.now run.front.now bytes.now }
 {
     rt.write_all(bytes)
 }
 
 // The pad of a run that has ended: a zero byte behind odd data, nothing behind even data. It fails where standard output does not take it.
-pub fn hand_pad(
-    rt: &impl Print,
-    bytes: &[u8],
-    job: Job,
-    gains: &[i32],
-    front: &[u8],
-    read: usize,
-) -> io::Result<()>
-    requires ended { Ended job gains.now front.now read }
-    requires bytes_value { bytes.now ≡ pad (3 * (count_of job.channels * job.frames)) }
+pub fn hand_pad(rt: &impl Print, bytes: &[u8], run: Run, read: usize) -> io::Result<()>
+    requires ended { Ended run.plan run.gains.now run.front.now read }
+    requires bytes_value { bytes.now ≡ pad (3 * (count_of run.plan.channels * run.plan.frames)) }
 {
     rt.write_all(bytes)
 }

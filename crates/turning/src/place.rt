@@ -1,13 +1,12 @@
 // What a run goes by, and where it stands.
-use samples::{Channels, Format};
+use eqfile::Plan;
 
-// The format and the channels of the file's frames, how many there are, and where in the front their bytes start.
+// The plan of a run, the gains of its arguments, and the front of its file.
 #[derive(Clone, Copy)]
-pub struct Job {
-    pub format: Format,
-    pub channels: Channels,
-    pub frames: u32,
-    pub start: usize,
+pub struct Run<'a> {
+    pub plan: Plan,
+    pub gains: &'a [i32],
+    pub front: &'a [u8],
 }
 
 // The frames fed and the data bytes read so far.

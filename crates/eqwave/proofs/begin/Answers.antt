@@ -6,6 +6,6 @@ use Rattle.eqwave.proofs.begin.Goals as goal
 
 pub run-requires : goal.run-requires
 run-requires g c =
-    let r = c.in-Run in
-    started c.requires.all_taken.texts (replicate bands (pos 0)) c.args.gains.now c.args.arguments c.args.front.now r.rate r.format r.channels r.frames r.start refl
-    c.requires.few c.requires.all_taken.is r.ensures
+    let p = c.in-Ok.plan in
+    started c.requires.all_taken.texts (replicate bands (pos 0)) c.args.gains.now c.args.arguments c.args.front.now p.rate p.format p.channels p.frames p.start refl
+    c.requires.few c.requires.all_taken.is c.in-Ok.ensures

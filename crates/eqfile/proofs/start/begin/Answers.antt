@@ -1,17 +1,14 @@
-use Rattle.std.proofs.Common.{sym, ap, ◌∙◌}
-use Rattle.arguments.specs.declared.taking.Arguments.{Arguments}
-use Rattle.eqfile.specs.Start.{plan_of, start_of, start_answer}
-use Rattle.eqfile.proofs.StartOrder.{arguments_refused, not_eight, eight}
+use Rattle.eqfile.proofs.StartOrder.{other_arguments, eight_taken, passed_on}
+use Rattle.eqfile.specs.Start.{plan_of}
 use Rattle.eqfile.proofs.start.begin.Goals as goal
 
-pub returns-in_default : goal.returns-in_default
-returns-in_default c = arguments_refused c.args.front.now ∙ sym (ap (λ (x : Arguments). start_of x c.args.front.now) c.in_default.is)
+pub returns-then-ne : goal.returns-then-ne
+returns-then-ne c = other_arguments c.args.arguments c.args.front.now c.if-ne.ensures
 
-pub returns-then-n-ne-BANDS : goal.returns-then-n-ne-BANDS
-returns-then-n-ne-BANDS c =
-    not_eight c.in-Taken.n c.args.front.now c.if-n-ne-BANDS.true ∙ sym (ap (λ (x : Arguments). start_of x c.args.front.now) c.in-Taken.is)
+pub returns-in_err-read : goal.returns-in_err-read
+returns-in_err-read c =
+    eight_taken c.args.arguments c.args.front.now _ _ c.if-ne.ensures c.in_err-read.ensures (passed_on c.from_residual.result c.in_err-read.field-0.0 c.from_residual.ensures.1)
 
 pub returns : goal.returns
-returns c =
-    eight c.in-Taken.n c.args.front.now (start_answer c.plan.result) c.if-n-ne-BANDS.false (c.plan.ensures ∙ ap plan_of c.read.ensures)
-    ∙ sym (ap (λ (x : Arguments). start_of x c.args.front.now) c.in-Taken.is)
+unfolding plan_of
+returns c = eight_taken c.args.arguments c.args.front.now _ _ c.if-ne.ensures c.in_ok-read.ensures c.planned.ensures

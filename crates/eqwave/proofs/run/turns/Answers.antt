@@ -2,7 +2,8 @@ use Rattle.std.proofs.Common.{arith}
 use Rattle.turning.proofs.Standing.{ended}
 use Rattle.eqwave.proofs.run.turns.Goals as goal
 
-pub finish-requires : goal.finish-requires
-finish-requires g c =
+pub returns : goal.returns
+returns g c =
+    let r = c.args.run in
     let l = c.loop-place in
-    ended c.args.job c.args.gains.now c.args.front.now l.place l.memory l.invariant (omega arith)
+    ended r.plan r.gains.now r.front.now l.place l.memory l.invariant (omega arith)
