@@ -24,11 +24,11 @@ impl Rule {
 }
 
 // Each number is made of the one before it.
-fn each<F: Fn(u64) -> u64>(s: &mut [i32], from: usize, next: F, before: u64, rule: Rule)
+fn each<F: Fn(u64) -> u64>(places: &mut [i32], rule: Rule, before: u64, next: F)
     requires { F.IsAlwaysCallable next }
 {
     let mut x = before;
-    for z in s.iter_mut().skip(from) {
+    for z in places {
         x = next(x);
         *z = rule.value(x);
     }
@@ -46,23 +46,16 @@ pub fn fill(cases: &mut impl Read, s: &mut [i32]) {
         base: word(cases),
         step: word(cases),
     };
-    let places = &mut s[..end];
-    // The numbers are those of a generator, or count on.
+    let places = &mut s[from.min(end)..end];
+    // The numbers are a generator's, or count on.
     if drawn {
         each(
             places,
-            from,
-            |x| (x % 2147483648 * 1103515245 + 12345) % 2147483648,
-            before,
             rule,
+            before,
+            |x| (x % 2147483648 * 1103515245 + 12345) % 2147483648,
         );
     } else {
-        each(
-            places,
-            from,
-            |x| (x % 2147483648 + 1) % 2147483648,
-            before,
-            rule,
-        );
+        each(places, rule, before, |x| (x % 2147483648 + 1) % 2147483648);
     }
 }
