@@ -10,6 +10,11 @@ abbrev pub PlaceFits : {A E : Type 0} → (E → Refused) → Result A E → Typ
 PlaceFits refusal (Ok a) = Unit
 PlaceFits refusal (Err e) = (refusal e).place < 2 ^ 54
 
+-- .. and one that is a count: it fits 64 bits with a sign
+abbrev pub CountFits : {E : Type 0} → (E → Refused) → Result ℕ E → Type 0
+CountFits refusal (Ok n) = n < 2 ^ 63
+CountFits refusal (Err e) = (refusal e).place < 2 ^ 54
+
 -- a refusal that the code can return: its number is not 0 and fits a byte, and its place fits what is left
 abbrev pub Refusal : ℕ → ℕ → Type 0
 Refusal number place = (0 < number) × (number < 256) × (place < 2 ^ 54)

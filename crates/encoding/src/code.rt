@@ -1,9 +1,9 @@
 // The encoding of answers, in one place: an accepted answer as itself, a refusal near INT64_MIN.
-ghost use Rattle.std.specs.Prelude.{◌≡◌, ◌<◌, ◌^◌, IfOk};
+ghost use Rattle.std.specs.Prelude.{◌≡◌, ◌<◌, ◌^◌};
 ghost use Rattle.answers.specs.Answer.{answered, refused};
 ghost use Rattle.encoding.specs.Answers.{of_count};
 ghost use Rattle.encoding.specs.Encode.{encode};
-ghost use Rattle.encoding.specs.Parts.{PlaceFits};
+ghost use Rattle.encoding.specs.Parts.{CountFits, PlaceFits};
 
 use answers::refused::Numbered;
 
@@ -17,8 +17,7 @@ fn refusal<E: Numbered>(error: E) -> i64
 
 // An answer that is a count: a length, a delay, a number of samples or of bytes.
 pub fn count<E: Numbered>(answer: Result<usize, E>) -> i64
-    requires fits { IfOk answer (λ n. n < 2 ^ 63) }
-    requires place { PlaceFits E.refusal answer }
+    requires { CountFits E.refusal answer }
     ensures { result ≡ encode (of_count (answered E.refusal answer)) }
 {
     match answer {

@@ -8,5 +8,5 @@ use Rattle.encoding.proofs.code.count.Goals as goal
 pub returns-in-Ok : goal.returns-in-Ok
 unfolding encode
 returns-in-Ok g c =
-    let fits : c.in-Ok.n < 2 ^ 63 = rw (c.in-Ok.is) at c.requires.fits in
+    let fits : c.in-Ok.n < 2 ^ 63 = rw (c.in-Ok.is) at c.requires in
     rw (c.in-Ok.is) (to_z_pos w64 fits)
