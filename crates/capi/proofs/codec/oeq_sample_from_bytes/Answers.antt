@@ -1,11 +1,11 @@
 -- The library call's answer, encoded.
-use Rattle.std.proofs.Common.{ap}
-use Rattle.samples.specs.Sample.{sample_answer}
-use Rattle.encoding.proofs.Encoding.{signed_is}
+use Rattle.samples.specs.Sample.{sample_refusal}
+use Rattle.encoding.proofs.Encoding.{signed_fits, signed_is}
 use Rattle.capi.proofs.Returnable.{sample_returnable}
 use Rattle.capi.proofs.codec.oeq_sample_from_bytes.Goals as goal
 
+pub signed-requires : goal.signed-requires
+signed-requires c = signed_fits sample_refusal c.sample_from_bytes.ensures (sample_returnable c.args.bytes.now)
+
 pub returns : goal.returns
-returns c =
-    signed_is (ap sample_answer c.sample_from_bytes.ensures) (sample_returnable c.args.bytes.now) c.sample_parts.ensures c.signed.ensures
-    c.signed.type_inv
+returns c = signed_is sample_refusal c.sample_from_bytes.ensures c.signed.ensures c.signed.type_inv
