@@ -15,38 +15,38 @@ use Rattle.answers.specs.Unit.{least_sample, most_sample}
 use Rattle.whole.specs.Limit.{limit}
 use Rattle.floats.specs.Value.{signed, float_sample}
 use Rattle.floats.specs.Exponent.{minus, exponent, end_of, shifted, by_exponent}
-use Rattle.floats.specs.declared.code.FloatSample.TheVariants.{Is, NotNumber}
 use Rattle.floats.proofs.Ends.{limit_far}
 use Rattle.floats.proofs.Ladder.{ladder, is_ladder, at_255, from_127, from_103, below_103}
 use Rattle.floats.proofs.Quotients.{joined, small_quotient, shifted_quotient, large_quotient}
 use Rattle.floats.proofs.Rounded.{sample_of_value}
+use Rattle.std.specs.Prelude.{Ok, Err}
 
 -- ---- q · 2 ^ k units of 2 ^ -149
 
 module _ (s : Bool) (q k : ℕ) where
   -- its sample, by its value
   sample_odd : float_sample (odd 24 s q k 149) ≡
-      Is (limit least_sample most_sample (signed s ((q * 2 ^ (23 + k) + 2 ^ 148) / (2 * 2 ^ 148))))
+      Ok (limit least_sample most_sample (signed s ((q * 2 ^ (23 + k) + 2 ^ 148) / (2 * 2 ^ 148))))
   sample_odd =
       sample_of_value (odd 24 s q k 149) s (q * 2 ^ k) (2 ^ 148) (pow_pos 148) (odd_sign 24 s q k 149)
-      ∙ ap (λ (v : ℕ). Is (limit least_sample most_sample (signed s ((v + 2 ^ 148) / (2 * 2 ^ 148))))) (joined q k)
+      ∙ ap (λ (v : ℕ). Ok (limit least_sample most_sample (signed s ((v + 2 ^ 148) / (2 * 2 ^ 148))))) (joined q k)
 
   -- below 2 ^ -24 there is nothing, and no sign
-  small_odd : q < 2 ^ 24 → k ≤ 101 → float_sample (odd 24 s q k 149) ≡ Is (pos 0)
+  small_odd : q < 2 ^ 24 → k ≤ 101 → float_sample (odd 24 s q k 149) ≡ Ok (pos 0)
   small_odd l h =
-      sample_odd ∙ ap (λ (n : ℕ). Is (limit least_sample most_sample (signed s n))) (small_quotient q k l h) ∙ no_sign s
+      sample_odd ∙ ap (λ (n : ℕ). Ok (limit least_sample most_sample (signed s n))) (small_quotient q k l h) ∙ ap Ok (no_sign s)
     where
-      no_sign : (s : Bool) → Is (limit least_sample most_sample (signed s 0)) ≡ Is (pos 0)
+      no_sign : (s : Bool) → limit least_sample most_sample (signed s 0) ≡ pos 0
       no_sign false = refl
       no_sign true = refl
 
   -- below 1.0 it is the shift
-  shifted_odd : (j : ℕ) → 1 ≤ j → k + j ≡ 126 → float_sample (odd 24 s q k 149) ≡ Is (shifted s q j)
-  shifted_odd j l e = sample_odd ∙ ap (λ (n : ℕ). Is (limit least_sample most_sample (signed s n))) (shifted_quotient q k j l e)
+  shifted_odd : (j : ℕ) → 1 ≤ j → k + j ≡ 126 → float_sample (odd 24 s q k 149) ≡ Ok (shifted s q j)
+  shifted_odd j l e = sample_odd ∙ ap (λ (n : ℕ). Ok (limit least_sample most_sample (signed s n))) (shifted_quotient q k j l e)
 
   -- from 1.0 on it is the end
-  large_odd : 8388608 ≤ q → 126 ≤ k → float_sample (odd 24 s q k 149) ≡ Is (end_of s)
-  large_odd l h = sample_odd ∙ ap Is (limit_far s ((q * 2 ^ (23 + k) + 2 ^ 148) / (2 * 2 ^ 148)) (large_quotient q k l h))
+  large_odd : 8388608 ≤ q → 126 ≤ k → float_sample (odd 24 s q k 149) ≡ Ok (end_of s)
+  large_odd l h = sample_odd ∙ ap Ok (limit_far s ((q * 2 ^ (23 + k) + 2 ^ 148) / (2 * 2 ^ 148)) (large_quotient q k l h))
 
   -- a leading one and 23 digits: the three ranges
   by_digits : 8388608 ≤ q → q < 2 ^ 24 → k < 254 → ladder s (suc k) q ≡ float_sample (odd 24 s q k 149)
@@ -61,11 +61,11 @@ module _ (s : Bool) (q k : ℕ) where
 
 module _ (s : Bool) (t : ℕ) (below : t < 2 ^ 23) where
   -- an infinity and a NaN are no sample
-  top_field : float_sample (of_fields binary32 s 255 t) ≡ NotNumber
+  top_field : float_sample (of_fields binary32 s 255 t) ≡ Err (record {})
   unfolding of_fields float_sample
   top_field = by (eqb t 0)
     where
-      by : (b : Bool) → float_sample (cond b (inf s) nan) ≡ NotNumber
+      by : (b : Bool) → float_sample (cond b (inf s) nan) ≡ Err (record {})
       by true = refl
       by false = refl
 

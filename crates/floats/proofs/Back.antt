@@ -17,8 +17,8 @@ use Rattle.whole.specs.Limit.{limit}
 use Rattle.whole.specs.Nearest.{nearest}
 use Rattle.whole.proofs.Nearest.{nearest-exact}
 use Rattle.floats.specs.Value.{full_scale, signed, float_sample, negative, float_of}
-use Rattle.floats.specs.declared.code.FloatSample.TheVariants.{Is}
 use Rattle.floats.proofs.ToFloat.{sample_size}
+use Rattle.std.specs.Prelude.{Ok}
 
 -- the float of a number is one that an f32 holds
 pub float_fits : (z : ℤ) → T (fits binary32 (float_of z))
@@ -56,16 +56,16 @@ times_scale : (z : ℤ) (v d : ℕ) → v * full_scale ≡ nat_abs z * d → sig
 times_scale z v d e = ap (signed (negative z)) (mul_comm full_scale v ∙ e) ∙ signed_times z d
 
 -- the sample of a float with the value z / 8,388,608
-of_value : (x : Float) (z : ℤ) → within least_sample most_sample z ≡ true → HasValue x (negative z) (nat_abs z) full_scale → float_sample x ≡ Is z
+of_value : (x : Float) (z : ℤ) → within least_sample most_sample z ≡ true → HasValue x (negative z) (nat_abs z) full_scale → float_sample x ≡ Ok z
 unfolding float_sample
 of_value nan z e v = absurd v
 of_value (inf t) z e v = absurd v
 of_value (fin t m k) z e v =
-    ap (λ (y : ℤ). Is (limit least_sample most_sample (nearest (down k) y)))
+    ap (λ (y : ℤ). Ok (limit least_sample most_sample (nearest (down k) y)))
     (ap (λ (s : Bool). signed s (full_scale * (m * up k))) v.0 ∙ times_scale z (m * up k) (down k) v.1)
-    ∙ ap (λ (y : ℤ). Is (limit least_sample most_sample y)) (nearest-exact (down k) (down_pos k) z)
-    ∙ ap Is (not_limited z e)
+    ∙ ap (λ (y : ℤ). Ok (limit least_sample most_sample y)) (nearest-exact (down k) (down_pos k) z)
+    ∙ ap Ok (not_limited z e)
 
 -- the sample of a sample's float is the sample
-pub there_and_back : (z : ℤ) → within least_sample most_sample z ≡ true → float_sample (float_of z) ≡ Is z
+pub there_and_back : (z : ℤ) → within least_sample most_sample z ≡ true → float_sample (float_of z) ≡ Ok z
 there_and_back z e = of_value (float_of z) z e (nothing_lost z e)

@@ -3,7 +3,7 @@ use mathlib.Core.Path.{◌≡◌, refl}
 use mathlib.Core.Bool.{Bool, true, false}
 use Prim.Native.Nat.{ℕ, ◌≤◌}
 use native.Mathlib.Omega.{arith}
-use borrow.Author.Tests.{lt-ltb, le-ltb}
+use borrow.Author.Tests.{lt-ltb}
 use lib.IntN.{pos, neg_ℤ}
 use Rattle.answers.specs.Unit.{least_sample, most_sample}
 use Rattle.whole.specs.Limit.{limit}
@@ -25,7 +25,3 @@ pub limit-negative : (n : ℕ) → n ≤ 8388608 → limit least_sample most_sam
 limit-negative n h =
     limit_id least_sample most_sample (neg_ℤ (pos n)) (le_by (var least_sample) (neg (lit n)) (omega arith))
     (le_by (neg (lit n)) (var most_sample) (omega arith))
-
--- up to 2 ^ 23 - 1 a positive one is not moved
-pub limit_positive : (n : ℕ) → n ≤ 8388607 → limit least_sample most_sample (pos n) ≡ pos n
-limit_positive n h = rw (le-ltb 8388607 n h) refl

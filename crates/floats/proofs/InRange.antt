@@ -16,7 +16,7 @@ use Rattle.whole.specs.Nearest.{nearest}
 use Rattle.whole.proofs.Signed.{var, le_by, lt_z_no}
 use Rattle.floats.specs.Value.{signed, full_scale, float_sample}
 use Rattle.floats.specs.Block.{sample_or0, samples_of}
-use Rattle.floats.specs.declared.code.FloatSample.TheVariants.{Is}
+use Rattle.std.specs.Prelude.{Ok}
 
 -- a limited number is within the limits, where the limits themselves are
 within-limit : (lo hi z : ℤ) → within lo hi lo ≡ true → within lo hi hi ≡ true → within lo hi (limit lo hi z) ≡ true
@@ -38,7 +38,7 @@ float_within (inf s) = refl
 float_within (fin s m e) = within-limit least_sample most_sample (nearest (down e) (signed s (full_scale * (m * up e)))) refl refl
 
 -- the sample that a call answers
-pub sample_within : (x : Float) (z : ℤ) → float_sample x ≡ Is z → within least_sample most_sample z ≡ true
+pub sample_within : (x : Float) (z : ℤ) → float_sample x ≡ Ok z → within least_sample most_sample z ≡ true
 sample_within x z e = rw (ap sample_or0 e) at (float_within x)
 
 -- .. of a block

@@ -1,11 +1,11 @@
 pub mod Agree
 pub mod Back
 pub mod Ends
-pub mod Finding
 pub mod InRange
 pub mod Ladder
 pub mod NoNumber
 pub mod OneAnswer
+pub mod Places
 pub mod Quotients
 pub mod Readings
 pub mod Refusals

@@ -14,7 +14,7 @@ use Rattle.whole.specs.Limit.{limit}
 use Rattle.whole.specs.Nearest.{nearest}
 use Rattle.whole.proofs.Nearest.{nearest-neg}
 use Rattle.floats.specs.Value.{signed, full_scale, float_sample}
-use Rattle.floats.specs.declared.code.FloatSample.TheVariants.{Is}
+use Rattle.std.specs.Prelude.{Ok}
 
 -- the sign does not change the rounding
 pub nearest-signed : (s : Bool) (d a : ℕ) → nearest d (signed s a) ≡ signed s ((a + d / 2) / d)
@@ -54,12 +54,12 @@ scaled v w d c e = omega arith
 
 -- the sample of a float whose value is known as a fraction over an even number
 pub sample_of_value : (x : Float) (s : Bool) (a h : ℕ) → 0 < h → HasValue x s a (2 * h) →
-    float_sample x ≡ Is (limit least_sample most_sample (signed s ((full_scale * a + h) / (2 * h))))
+    float_sample x ≡ Ok (limit least_sample most_sample (signed s ((full_scale * a + h) / (2 * h))))
 unfolding float_sample
 sample_of_value nan s a h p v = absurd v
 sample_of_value (inf t) s a h p v = absurd v
 sample_of_value (fin t m e) s a h p v =
     rw v.0
-    (ap (λ (z : ℤ). Is (limit least_sample most_sample z)) (nearest-signed s (down e) (full_scale * (m * up e)))
-    ∙ ap (λ (n : ℕ). Is (limit least_sample most_sample (signed s n)))
+    (ap (λ (z : ℤ). Ok (limit least_sample most_sample z)) (nearest-signed s (down e) (full_scale * (m * up e)))
+    ∙ ap (λ (n : ℕ). Ok (limit least_sample most_sample (signed s n)))
     (rounded_same e (full_scale * (m * up e)) (full_scale * a) h p (scaled (m * up e) a (down e) (2 * h) v.1)))

@@ -1,22 +1,20 @@
 -- What the code of `shifted` asks: its steps lose nothing, and each return is the definition's. Assumes nothing.
 use mathlib.Core.Path.{◌≡◌, sym, ap, ◌∙◌}
-use mathlib.Core.Bool.{Bool, true, false}
+use mathlib.Core.Bool.{Bool, true}
 use Prim.Native.Nat.{ℕ, ◌+◌, ◌-◌, ◌*◌, ◌/◌, ◌%◌, ◌^◌, ◌≤◌, ◌<◌}
 use native.Mathlib.Nat.{one-mul, mod-eq_of_lt, div-lt_iff_lt-mul, le_of_suc-le-suc, mul-le-mul_left}
 use native.Mathlib.Omega.{arith}
-use borrow.Author.Tests.{ltb-true, ltb-false}
 use lib.IntN.{ℤ, pos, neg_ℤ, ◌-ℤ◌, +ℤ_idl}
 use lib.Pow.{pow_pos, pow_mono}
-use lib.Signed.{lt_z}
 use mir.Syntax.{w32}
-use mir.Val.{Fits, SFits, to_z, of_z}
+use mir.Val.{SFits, to_z, of_z}
 use mir.Facts.{to_z-of_z, to_z_pos}
 use Rattle.answers.specs.Unit.{least_sample, most_sample}
 use Rattle.whole.specs.Limit.{limit}
 use Rattle.whole.proofs.Signed.{lit, neg, mag_by}
 use Rattle.floats.specs.Value.{signed}
 use Rattle.floats.specs.Exponent.{shifted}
-use Rattle.floats.proofs.Ends.{limit_far, limit-negative, limit_positive}
+use Rattle.floats.proofs.Ends.{limit-negative}
 use Rattle.floats.proofs.Quotients.{double}
 
 -- half of the divisor, as the machine computes it
@@ -40,10 +38,6 @@ module _ (n k : ℕ) (pre : (n < 2 ^ 24) × (1 ≤ k) × (k ≤ 24)) where
   half_is : half_step k ≡ 2 ^ (k - 1)
   half_is = let l = half_small in ap (λ (x : ℕ). x % 4294967296) (one-mul (2 ^ (k - 1))) ∙ mod-eq_of_lt (omega arith)
 
-  -- nor of the sum
-  pub sum_fits : Fits w32 (n + half_step k)
-  sum_fits = let l = half_small in let p = pre.0 in record { fits = omega (arith, half_is) }
-
   -- the machine's quotient is the definition's
   quotient_is : quotient n k ≡ (n + 2 ^ (k - 1)) / 2 ^ k
   quotient_is = ap (λ (x : ℕ). (n + x) / 2 ^ k) half_is
@@ -54,11 +48,7 @@ module _ (n k : ℕ) (pre : (n < 2 ^ 24) × (1 ≤ k) × (k ≤ 24)) where
       rw (quotient_is, double k pre.1)
       (few n (2 ^ (k - 1)) (pow_pos (k - 1)) pre.0)
 
-  -- so it fits as a signed number
-  pub cast_fits : SFits w32 (pos (quotient n k))
-  cast_fits = let l = quotient_few in record { sfits = omega arith }
-
-  -- which reads as itself
+  -- as a signed number it reads as itself
   read : to_z w32 (quotient n k) ≡ pos (quotient n k)
   read = let l = quotient_few in to_z_pos w32 (omega arith)
 
@@ -81,13 +71,3 @@ module _ (n k : ℕ) (pre : (n < 2 ^ 24) × (1 ≤ k) × (k ≤ 24)) where
   -- below 0 the quotient is never past the range
   pub is_negative : to_z w32 (of_z w32 (pos 0 -ℤ to_z w32 (quotient n k))) ≡ shifted true n k
   is_negative = to_z-of_z minus_fits ∙ turned ∙ sym (limit-negative (quotient n k) quotient_few) ∙ limited true
-
-  -- 2 ^ 23 is past the range, and goes to its end
-  pub is_most : lt_z (pos 8388607) (to_z w32 (quotient n k)) ≡ true → pos 8388607 ≡ shifted false n k
-  is_most t =
-      let l : 8388607 < quotient n k = ltb-true 8388607 (quotient n k) (rw read at t) in
-      sym (limit_far false (quotient n k) (omega arith)) ∙ limited false
-
-  -- a smaller quotient is the answer
-  pub is_quotient : lt_z (pos 8388607) (to_z w32 (quotient n k)) ≡ false → to_z w32 (quotient n k) ≡ shifted false n k
-  is_quotient t = read ∙ sym (limit_positive (quotient n k) (ltb-false 8388607 (quotient n k) (rw read at t))) ∙ limited false

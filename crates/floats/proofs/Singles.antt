@@ -6,7 +6,7 @@ use Prim.Native.Nat.{ℕ, ◌<◌}
 use lib.Dec.{eqb}
 use lib.IntN.{ℤ, pos}
 use lib.Ieee.{Float, nan}
-use lib.ListN.{length, get_or}
+use lib.ListN.{length, get_or, get_or-map}
 use borrow.Author.Tests.{eqb-true}
 use Rattle.answers.specs.Answer.{accepted}
 use Rattle.answers.specs.Checks.{Outcome, all_hold}
@@ -16,21 +16,19 @@ use Rattle.answers.proofs.Firsts.{all_at}
 use Rattle.answers.proofs.Laws.{and_left, and_right, accepted_holds, all_accept}
 use Rattle.floats.specs.Value.{float_sample}
 use Rattle.floats.specs.Block.{is_sample, is_number, sample_or0, samples_of, float_checks, from_floats, float_block_answer}
-use Rattle.floats.specs.declared.block.FloatBlock.{FloatBlock}
-use Rattle.floats.specs.declared.block.FloatBlock.TheVariants.{Samples}
-use Rattle.floats.specs.declared.code.FloatSample.{FloatSample}
-use Rattle.floats.specs.declared.code.FloatSample.TheVariants.{Is, NotNumber}
-use Rattle.floats.proofs.Taking.{sample_at}
+use Rattle.std.specs.Prelude.{Result, Ok, Err}
+use Rattle.floats.specs.declared.code.NotNumber.{NotNumber}
+use Rattle.floats.specs.declared.block.FloatsError.{FloatsError}
 
 -- a sample is its number
-is_sample_lem : (r : FloatSample) → is_sample r ≡ true → r ≡ Is (sample_or0 r)
-is_sample_lem (Is z) e = refl
-is_sample_lem NotNumber e = absurd (false≢true e)
+is_sample_lem : (r : Result ℤ NotNumber) → is_sample r ≡ true → r ≡ Ok (sample_or0 r)
+is_sample_lem (Ok z) e = refl
+is_sample_lem (Err f) e = absurd (false≢true e)
 
 -- past the end there is 0
 at_place : (values : List Float) (i : ℕ) → get_or (samples_of values) i (pos 0) ≡ sample_or0 (float_sample (get_or values i nan))
 unfolding float_sample
-at_place values i = sample_at values i
+at_place values i = get_or-map (λ (x : Float). sample_or0 (float_sample x)) values i nan
 
 -- what an accepted block is
 pub record Accepted (values : List Float) (samples : List ℤ) (n : ℕ) : Type 0 where
@@ -46,14 +44,14 @@ accepted_is values samples n e =
     let cs = float_checks values samples in
     let same = eqb (length samples) (length values) in
     let each = all_pass is_number values in
-    let held : all_hold cs ≡ true = accepted_holds float_block_answer cs samples (samples_of values) (Samples (length values)) n refl e in
+    let held : all_hold cs ≡ true = accepted_holds float_block_answer cs samples (samples_of values) (Ok (length values)) n refl e in
     let rest = and_right same (each && true) held in
-    let is = all_accept samples (samples_of values) (Samples (length values)) cs held in
+    let is = all_accept samples (samples_of values) (Ok (length values)) cs held in
     record {
-      count = taken (sym e ∙ ap (λ (o : Outcome FloatBlock (List ℤ)). float_block_answer o.result) is);
+      count = taken (sym e ∙ ap (λ (o : Outcome (Result ℕ FloatsError) (List ℤ)). float_block_answer o.result) is);
       long = eqb-true (length samples) (length values) (and_left same (each && true) held);
       numbers = and_left each true rest;
-      lent = ap (λ (o : Outcome FloatBlock (List ℤ)). o.lent) is;
+      lent = ap (λ (o : Outcome (Result ℕ FloatsError) (List ℤ)). o.lent) is;
     }
   where
     taken : accepted n ≡ accepted (length values) → n ≡ length values
@@ -61,8 +59,8 @@ accepted_is values samples n e =
 
 -- each sample of an accepted block is the single call's
 pub each_single : (values : List Float) (samples : List ℤ) (n : ℕ) → float_block_answer (from_floats values samples).result ≡ accepted n →
-    (i : ℕ) → i < n → float_sample (get_or values i nan) ≡ Is (get_or (from_floats values samples).lent i (pos 0))
+    (i : ℕ) → i < n → float_sample (get_or values i nan) ≡ Ok (get_or (from_floats values samples).lent i (pos 0))
 each_single values samples n e i h =
     let a = accepted_is values samples n e in
     is_sample_lem (float_sample (get_or values i nan)) (all_at is_number nan values a.numbers i (rw a.count at h))
-    ∙ ap Is (sym (at_place values i) ∙ ap (λ (s : List ℤ). get_or s i (pos 0)) (sym a.lent))
+    ∙ ap Ok (sym (at_place values i) ∙ ap (λ (s : List ℤ). get_or s i (pos 0)) (sym a.lent))

@@ -5,9 +5,9 @@ use Prim.Native.Nat.{ℕ, suc, ◌*◌, ◌^◌, ◌≤◌, ◌<◌}
 use native.Mathlib.Nat.{mul-pos}
 use native.Mathlib.Omega.{arith}
 use borrow.Author.Tests.{leb-true, ltb-false}
-use lib.Dec.{T, le→leb, lt→ltb, lit<}
+use lib.Dec.{lit<}
 use lib.IntN.{ℤ, pos, negsuc, nat_abs}
-use lib.Ieee.{Float, nan, inf, fin, up, down, binary32, round, div, of_int, in_float}
+use lib.Ieee.{Float, nan, inf, fin, up, down, binary32, round, div, of_int}
 use lib.Ieee.Back.{round_whole}
 use lib.Ieee.Exact.{HasValue}
 use lib.Ieee.Fits.{down_pos}
@@ -22,13 +22,7 @@ pub sample_size : (z : ℤ) → within least_sample most_sample z ≡ true → n
 sample_size (pos n) e = omega (arith, leb-true n 8388607 e)
 sample_size (negsuc n) e = omega (arith, ltb-false 8388607 n (within_ends least_sample most_sample (negsuc n) e).0)
 
--- numbers up to 2 ^ 24 are floats
-pub in_float_lem : (z : ℤ) → nat_abs z ≤ 2 ^ 24 → T (in_float binary32 z)
-unfolding in_float
-in_float_lem (pos n) h = le→leb n (2 ^ 24) h
-in_float_lem (negsuc n) h = lt→ltb n (2 ^ 24) h
-
--- .. of their value
+-- numbers up to 2 ^ 24 are floats of their value
 whole_value : (z : ℤ) → nat_abs z ≤ 2 ^ 24 → HasValue (of_int binary32 z) (negative z) (nat_abs z) 1
 unfolding of_int
 whole_value (pos n) h = round_whole binary32 false n h

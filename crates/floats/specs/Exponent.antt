@@ -1,10 +1,9 @@
 -- A float as a sample, by ranges of its exponent, from its 32 bits: one of sign, eight of exponent, 23 of digits.
-use Rattle.std.specs.Prelude.{Bool, cond, ℕ, ◌+◌, ◌-◌, ◌/◌, ◌%◌, ◌^◌, ℤ, pos, eqb, leb}
+use Rattle.std.specs.Prelude.{Bool, cond, ℕ, ◌+◌, ◌-◌, ◌/◌, ◌%◌, ◌^◌, ℤ, pos, eqb, leb, Result, Ok, Err}
 use Rattle.answers.specs.Unit.{least_sample, most_sample}
 use Rattle.whole.specs.Limit.{limit}
 use Rattle.floats.specs.Value.{signed}
-use Rattle.floats.specs.declared.code.FloatSample.{FloatSample}
-use Rattle.floats.specs.declared.code.FloatSample.TheVariants.{Is, NotNumber}
+use Rattle.floats.specs.declared.code.NotNumber.{NotNumber}
 
 -- rule 9.8: whether the sign is a minus
 abbrev pub minus : (code : ℕ) → Bool
@@ -27,10 +26,10 @@ abbrev pub shifted : Bool → (n k : ℕ) → ℤ
 shifted negative n k = limit least_sample most_sample (signed negative ((n + 2 ^ (k - 1)) / 2 ^ k))
 
 -- rule 9.8: 255 is no number, from 127 up the limit, 103 to 126 a shift, below zero
-unfoldable pub by_exponent : (code : ℕ) → FloatSample
+unfoldable pub by_exponent : (code : ℕ) → Result ℤ NotNumber
 by_exponent code =
     let x = exponent code in
-    cond (eqb x 255) NotNumber
-    (cond (leb 127 x) (Is (end_of (minus code)))
-    (cond (leb 103 x) (Is (shifted (minus code) (digits code) (127 - x)))
-    (Is (pos 0))))
+    cond (eqb x 255) (Err (record {}))
+    (cond (leb 127 x) (Ok (end_of (minus code)))
+    (cond (leb 103 x) (Ok (shifted (minus code) (digits code) (127 - x)))
+    (Ok (pos 0))))

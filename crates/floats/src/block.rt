@@ -1,74 +1,62 @@
 // Floats to samples by the block. Everything is judged before anything is written.
-ghost use Rattle.std.specs.Prelude.{◌≡◌, length};
+ghost use Rattle.std.specs.Prelude.{◌≡◌, length, not, position};
 ghost use Rattle.answers.specs.Checks.{Done};
-ghost use Rattle.answers.specs.First.{first_failing};
-ghost use Rattle.floats.specs.Value.{float_sample};
-ghost use Rattle.floats.specs.Block.{is_number, sample_or0, samples_of, from_floats};
+ghost use Rattle.floats.specs.Block.{is_number, samples_of, from_floats, floats_refusal};
+ghost use Rattle.std.proofs.Common.{rules};
 
-use crate::code;
-use crate::code::is_sample;
 use crate::single::sample_from_float;
+use answers::refused::{Numbered, Refused};
 
-// What `samples_from_floats` answers.
-#[derive(Clone, Copy)]
-pub enum FloatBlock {
-    // The number of samples.
-    Samples(usize),
+// Why `samples_from_floats` refuses.
+#[derive(Clone, Copy, Debug, PartialEq, Eq)]
+pub enum FloatsError {
     // 6: the output's length is not the number of floats.
     WrongLength,
     // 41: a NaN or an infinity; the first one's place.
     BadFloat(usize),
 }
 
-fn is_number(value: f32) -> bool
-    ensures { result ≡ is_number value }
-{
-    is_sample(sample_from_float(value))
-}
+impl Numbered for FloatsError {
+    ghost refusal = { floats_refusal };
 
-// The place of the first float that is no number, or their number where none is.
-fn first_bad(values: &[f32]) -> usize
-    ensures { result ≡ first_failing is_number values.now }
-{
-    let mut i = 0;
-    while i < values.len() {
-        if !is_number(values[i]) {
-            return i;
+    ghost has_number = { Prim.search rules };
+
+    fn refused(self) -> Refused {
+        match self {
+            FloatsError::WrongLength => Refused::plain(6),
+            FloatsError::BadFloat(place) => Refused { number: 41, place },
         }
-        i += 1;
     }
-    i
 }
 
-// The sample of a float, 0 for what is none.
-fn sample_or_0(value: f32) -> i32
-    ensures { result ≡ sample_or0 (float_sample value) }
+// The place of the first float that is no number.
+fn first_bad(values: &[f32]) -> Option<usize>
+    ensures { result ≡ position (λ x. not (is_number x)) values.now }
 {
-    code::sample_or_0(sample_from_float(value))
+    values
+        .iter()
+        .position(|value| sample_from_float(*value).is_err())
 }
 
 fn take_all(values: &[f32], samples: &mut [i32])
     requires { length samples.old ≡ length values.now }
     ensures { samples.new ≡ samples_of values.now }
 {
-    let mut i = 0;
-    while i < samples.len() {
-        samples[i] = sample_or_0(values[i]);
-        i += 1;
+    for (i, value) in values.iter().enumerate() {
+        samples[i] = sample_from_float(*value).unwrap_or(0);
     }
 }
 
 // The samples of floats, one for each.
-pub fn samples_from_floats(values: &[f32], samples: &mut [i32]) -> FloatBlock
+pub fn samples_from_floats(values: &[f32], samples: &mut [i32]) -> Result<usize, FloatsError>
     ensures { Done (from_floats values.now samples.old) result samples.new }
 {
     if samples.len() != values.len() {
-        return FloatBlock::WrongLength;
+        return Err(FloatsError::WrongLength);
     }
-    let bad = first_bad(values);
-    if bad < values.len() {
-        return FloatBlock::BadFloat(bad);
+    if let Some(place) = first_bad(values) {
+        return Err(FloatsError::BadFloat(place));
     }
     take_all(values, samples);
-    FloatBlock::Samples(values.len())
+    Ok(values.len())
 }

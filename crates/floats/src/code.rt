@@ -2,37 +2,24 @@
 ghost use Rattle.std.specs.Prelude.{◌≡◌, ◌<◌, ◌≤◌, ◌^◌};
 ghost use Rattle.std.specs.Float.{binary32};
 ghost use Rattle.std.specs.Float.Ieee.{of_bits};
-ghost use Rattle.floats.specs.Value.{float_sample};
-ghost use Rattle.floats.specs.Block.{is_sample, sample_or0};
+ghost use Rattle.floats.specs.Value.{float_sample, number_refusal};
 ghost use Rattle.floats.specs.Exponent.{end_of, shifted, by_exponent};
+ghost use Rattle.std.proofs.Common.{rules};
 
+use answers::refused::{Numbered, Refused};
 use answers::unit::{LEAST_SAMPLE, MOST_SAMPLE};
 
-// What a float is as a sample.
-#[derive(Clone, Copy)]
-pub enum FloatSample {
-    Is(i32),
-    // 41: a NaN or an infinity.
-    NotNumber,
-}
+// 41: a NaN or an infinity, which is no sample.
+#[derive(Clone, Copy, Debug, PartialEq, Eq)]
+pub struct NotNumber;
 
-// Whether it is a sample.
-pub fn is_sample(float: FloatSample) -> bool
-    ensures { result ≡ is_sample float }
-{
-    match float {
-        FloatSample::Is(_) => true,
-        FloatSample::NotNumber => false,
-    }
-}
+impl Numbered for NotNumber {
+    ghost refusal = { number_refusal };
 
-// The sample, and 0 where there is none.
-pub fn sample_or_0(float: FloatSample) -> i32
-    ensures { result ≡ sample_or0 float }
-{
-    match float {
-        FloatSample::Is(z) => z,
-        FloatSample::NotNumber => 0,
+    ghost has_number = { Prim.search rules };
+
+    fn refused(self) -> Refused {
+        Refused::plain(41)
     }
 }
 
@@ -49,27 +36,24 @@ fn shifted(negative: bool, digits: u32, k: u32) -> i32
     ensures { result ≡ shifted negative digits k }
 {
     let n = ((digits + (1 << (k - 1))) >> k) as i32;
-    if negative {
-        return -n;
-    }
-    if MOST_SAMPLE < n { MOST_SAMPLE } else { n }
+    if negative { -n } else { n.min(MOST_SAMPLE) }
 }
 
-fn by_exponent(code: u32) -> FloatSample
+fn by_exponent(code: u32) -> Result<i32, NotNumber>
     ensures { result ≡ by_exponent code }
 {
     let negative = 2147483648 <= code;
     let x = code / 8388608 % 256;
     match x {
-        255 => FloatSample::NotNumber,
-        127..=254 => FloatSample::Is(end_of(negative)),
-        103..=126 => FloatSample::Is(shifted(negative, 8388608 + code % 8388608, 127 - x)),
-        _ => FloatSample::Is(0),
+        255 => Err(NotNumber),
+        127..=254 => Ok(end_of(negative)),
+        103..=126 => Ok(shifted(negative, 8388608 + code % 8388608, 127 - x)),
+        _ => Ok(0),
     }
 }
 
 // The sample of the float with these bits.
-pub fn sample_of_code(code: u32) -> FloatSample
+pub fn sample_of_code(code: u32) -> Result<i32, NotNumber>
     ensures { result ≡ float_sample (of_bits binary32 code) }
 {
     by_exponent(code)

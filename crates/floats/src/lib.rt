@@ -5,6 +5,6 @@ mod block;
 mod code;
 mod single;
 
-pub use block::{FloatBlock, samples_from_floats};
-pub use code::{FloatSample, is_sample, sample_of_code, sample_or_0};
-pub use single::{Floated, sample_from_float, sample_to_float};
+pub use block::{FloatsError, samples_from_floats};
+pub use code::{NotNumber, sample_of_code};
+pub use single::{OutOfRange, sample_from_float, sample_to_float};
