@@ -13,8 +13,8 @@ use Rattle.std.proofs.Common.{Result, Ok, Err}
 use Rattle.answers.specs.Answer.{Answer, accepted, refused, answered}
 use Rattle.answers.specs.Checks.{Outcome, Done}
 use Rattle.answers.specs.declared.refused.Refused.{Refused}
-use Rattle.encoding.specs.Answers.{of_count, Returned}
-use Rattle.encoding.specs.Encode.{least, encode, Apart}
+use Rattle.encoding.specs.Answers.{of_count}
+use Rattle.encoding.specs.Encode.{least, Apart}
 use Rattle.encoding.specs.Parts.{PlaceFits, CountFits, Returnable, Counted}
 
 -- ---- 64 bits
@@ -38,9 +38,9 @@ sum k h = record { fits = in_range; is = to_z-of_z in_range ∙ ap (λ (z : ℤ)
     in_range : SFits w64 (least +ℤ to_z w64 k)
     in_range = rw (to_z_pos w64 h, above-least k h) (sfits_of {w = w64} (omega arith))
 
--- ---- what an export asks of the encoding, and what it returns
+-- ---- an answer that is promised to be returnable can be encoded
 
--- a signed answer
+-- a signed one
 module _ {E : Type 0} (refusal : E → Refused) {r s : Result ℤ E} (same : r ≡ s) where
   pub signed_fits : Returnable (answered refusal s) → PlaceFits refusal r
   signed_fits h = by r (rw same h)
@@ -48,9 +48,6 @@ module _ {E : Type 0} (refusal : E → Refused) {r s : Result ℤ E} (same : r �
       by : (r : Result ℤ E) → Returnable (answered refusal r) → PlaceFits refusal r
       by (Ok z) h = tt
       by (Err e) h = h.2
-
-  pub signed_is : {code : ℤ} → code ≡ encode (answered refusal r) → mag code < 2 ^ 63 → to_z w64 (of_z w64 code) ≡ encode (answered refusal s)
-  signed_is e fits = returned (rw (same) at e) fits
 
 -- a count
 module _ {E : Type 0} (refusal : E → Refused) (r : Result ℕ E) {a : Answer ℕ} (same : answered refusal r ≡ a) where
@@ -61,17 +58,10 @@ module _ {E : Type 0} (refusal : E → Refused) (r : Result ℕ E) {a : Answer �
       by (Ok n) h = h
       by (Err e) h = h.2
 
-  pub count_is : {code : ℤ} → code ≡ encode (of_count (answered refusal r)) → mag code < 2 ^ 63 → to_z w64 (of_z w64 code) ≡ encode (of_count a)
-  count_is e fits = returned (rw (same) at e) fits
-
 -- a count of a call that was lent places
-module _ {E L : Type 0} (refusal : E → Refused) {o : Outcome (Result ℕ E) L} {r : Result ℕ E} {lent : L} (d : Done o r lent) where
-  pub lent_fits : Counted (answered refusal o.result) → CountFits refusal r
-  lent_fits h = count_fits refusal r (ap (answered refusal) d.result_is) h
-
-  pub lent_returned : {code : ℤ} → code ≡ encode (of_count (answered refusal r)) → mag code < 2 ^ 63 →
-      Returned (λ (a : Result ℕ E). of_count (answered refusal a)) o (to_z w64 (of_z w64 code)) lent
-  lent_returned e fits = record { code_is = count_is refusal r (ap (answered refusal) d.result_is) e fits; lent_is = d.lent_is }
+pub lent_fits : {E L : Type 0} (refusal : E → Refused) {o : Outcome (Result ℕ E) L} {r : Result ℕ E} {lent : L} → Done o r lent →
+    Counted (answered refusal o.result) → CountFits refusal r
+lent_fits refusal d h = count_fits refusal _ (ap (answered refusal) d.result_is) h
 
 -- ---- what can be returned is kept apart
 
