@@ -2,5 +2,6 @@
 pub mod Ranges
 pub mod Layouts
 pub mod Memories
+pub mod Inputs
 pub mod Refusals
 pub mod Blocking

@@ -12,16 +12,20 @@ use lib.ListN.{length, take, drop, set, replicate, length-drop, drop_of_length-l
 use lib.Seq.{take_all}
 use lib.IntN.{ℤ, pos, negsuc, nat_abs}
 use lib.Signed.{lt_z, non_neg}
-use Rattle.answers.specs.Checks.{all_hold}
+use Rattle.std.specs.Prelude.{Result, Ok, Err}
+use Rattle.answers.specs.Checks.{all_hold, choose, Done}
 use Rattle.answers.specs.Judging.{First, here, later}
-use Rattle.answers.proofs.Laws.{and_left, and_right, first_fails, chosen_first}
+use Rattle.answers.proofs.Laws.{and_left, and_right, first_fails, chosen_first, chosen_here, chosen_on, chosen_last}
+use Rattle.answers.proofs.Branches.{judging}
 use Rattle.tree.specs.Prototype.{published}
 use Rattle.tree.specs.Tree.{delay}
 use Rattle.octave.specs.declared.memory.Fault.{Fault}
 use Rattle.octave.specs.declared.memory.Fault.TheVariants.{CountWrong, PositionOutside}
-use Rattle.octave.specs.declared.memory.Kept.{Kept}
-use Rattle.octave.specs.declared.memory.Kept.TheVariants.{Holds, Wrong}
-use Rattle.octave.specs.Memory.{line_length, side_places, memory_length, count_allowed, channels_allowed, prepared, Held, head_places, held_in, memory_of, bands_in, channels_in, position_within, memory_checks, accepts, fault_of, kept_of}
+use Rattle.octave.specs.declared.memory.CountError.{CountError}
+use Rattle.octave.specs.declared.memory.CountError.TheVariants.{BandCount, ChannelCount}
+use Rattle.octave.specs.Counts.{Counts}
+use Rattle.octave.specs.Helpers.{KeptCounts}
+use Rattle.octave.specs.Memory.{counts_of, counts_in, of_count, memory_length_of, prepare_of, line_length, side_places, memory_length, count_allowed, channels_allowed, prepared, Held, head_places, held_in, memory_of, bands_in, channels_in, position_within, memory_checks, accepts, fault_of, kept_of}
 use Rattle.octave.proofs.Ranges.{Count, bands_of, channels_of_lem}
 
 -- ---- the head and the lines
@@ -112,6 +116,10 @@ accepted_is m bands channels e b c =
       inside = p.1;
     })
 
+-- .. of a memory of these counts
+pub counts_accepted : {m : List ℤ} {k : Counts} → KeptCounts k m → Accepted m k.bands k.channels
+counts_accepted {m} {k} h = accepted_is m k.bands k.channels h.kept (ap (λ (x : Counts). x.bands) h.counts_are) (ap (λ (x : Counts). x.channels) h.counts_are)
+
 pub accepted_count : (m : List ℤ) → accepts m ≡ true → count_allowed (held_in m).count ≡ true
 unfolding all_hold
 accepted_count m e =
@@ -128,10 +136,10 @@ accepts_is m b c l n h =
 -- ---- how judging tells it
 
 -- the first check that fails is the fault
-pub wrong_is : (m : List ℤ) (f : Fault) → First (memory_checks m) f → Wrong f ≡ kept_of m
-wrong_is m f h = rw (first_fails h) (ap Wrong (sym (chosen_first PositionOutside h)))
+pub wrong_is : (m : List ℤ) (f : Fault) → First (memory_checks m) f → Err f ≡ kept_of m
+wrong_is m f h = rw (first_fails h) (ap (λ (g : Fault). Err g) (sym (chosen_first PositionOutside h)))
 
-pub right_is : (m : List ℤ) → accepts m ≡ true → Holds (bands_in m) (channels_in m) ≡ kept_of m
+pub right_is : (m : List ℤ) → accepts m ≡ true → Ok (counts_in m) ≡ kept_of m
 right_is m e = rw e refl
 
 -- a memory with fewer than two places has no channel count
@@ -144,29 +152,89 @@ too_short (x ∷ []) h = by (count_allowed x) refl
     by false e = here e
 too_short (x ∷ y ∷ m) h = absurd (omega arith)
 
-abbrev holds : Kept → Bool
-holds (Holds b c) = true
-holds (Wrong f) = false
+pub kept_wrong : (m : List ℤ) (f : Fault) → Err f ≡ kept_of m → (accepts m ≡ false) × (f ≡ fault_of m)
+kept_wrong m f = by (accepts m)
+  where
+    by : (t : Bool) → Err f ≡ cond t (Ok (counts_in m)) (Err (fault_of m)) → (t ≡ false) × (f ≡ fault_of m)
+    by true e = absurd cc
+    by false e = (refl, cc)
 
-module _ (m : List ℤ) (k : Kept) (judged : k ≡ kept_of m) where
-  pub kept_wrong : (f : Fault) → k ≡ Wrong f → (accepts m ≡ false) × (f ≡ fault_of m)
-  kept_wrong f is = by (accepts m) (sym is ∙ judged)
+pub kept_right : (m : List ℤ) (k : Counts) → Ok k ≡ kept_of m → KeptCounts k m
+kept_right m k e = let b = by (accepts m) e in record { kept = b.0; counts_are = b.1 }
+  where
+    by : (t : Bool) → Ok k ≡ cond t (Ok (counts_in m)) (Err (fault_of m)) → (t ≡ true) × (k ≡ counts_in m)
+    by true e = (refl, cc)
+    by false e = absurd cc
+
+-- ---- the counts as they are judged
+
+-- what a refusal of two counts tells
+pub data CountsRefused (bands channels : ℤ) : CountError → Type 0 where
+  bands_wrong : count_allowed bands ≡ false → CountsRefused bands channels BandCount
+  channels_wrong : count_allowed bands ≡ true → channels_allowed channels ≡ false → CountsRefused bands channels ChannelCount
+
+abbrev both : (bands channels : ℤ) → Counts
+both bands channels = record { bands = nat_abs bands; channels = nat_abs channels }
+
+abbrev long_enough : Counts → Result ℕ CountError
+long_enough k = Ok (memory_length k.bands k.channels)
+
+-- .. and what an acceptance does
+pub record CountsAre (bands channels : ℤ) (k : Counts) : Type 0 where
+  pub bands_allowed : count_allowed bands ≡ true
+  pub channels_allowed_lem : channels_allowed channels ≡ true
+  pub counts_are : k ≡ both bands channels
+
+module _ (bands channels : ℤ) where
+  abbrev judged : (t u : Bool) → Result Counts CountError
+  judged t u = cond t (cond u (Ok (both bands channels)) (Err ChannelCount)) (Err BandCount)
+
+  pub counts_refused : (e : CountError) → Err e ≡ counts_of bands channels → CountsRefused bands channels e
+  unfolding choose
+  counts_refused e = by (count_allowed bands) (channels_allowed channels) refl refl
     where
-      by : (t : Bool) → Wrong f ≡ cond t (Holds (bands_in m) (channels_in m)) (Wrong (fault_of m)) → (t ≡ false) × (f ≡ fault_of m)
-      by true e = absurd (false≢true (ap holds e))
-      by false e = (refl, cc)
+      by : (t u : Bool) → count_allowed bands ≡ t → channels_allowed channels ≡ u → Err e ≡ judged t u → CountsRefused bands channels e
+      by false u p q h = let is : BandCount ≡ e = cc in subst (CountsRefused bands channels) is (bands_wrong p)
+      by true false p q h = let is : ChannelCount ≡ e = cc in subst (CountsRefused bands channels) is (channels_wrong p q)
+      by true true p q h = absurd cc
 
-  module _ (bands channels : ℕ) (is : k ≡ Holds bands channels) where
-    same : (t : Bool) → Holds bands channels ≡ cond t (Holds (bands_in m) (channels_in m)) (Wrong (fault_of m)) →
-        (t ≡ true) × (bands ≡ bands_in m) × (channels ≡ channels_in m)
-    same true e = (refl, cc, cc)
-    same false e = absurd (false≢true (sym (ap holds e)))
+  pub counts_are : (k : Counts) → Ok k ≡ counts_of bands channels → CountsAre bands channels k
+  unfolding choose
+  counts_are k = by (count_allowed bands) (channels_allowed channels) refl refl
+    where
+      by : (t u : Bool) → count_allowed bands ≡ t → channels_allowed channels ≡ u → Ok k ≡ judged t u → CountsAre bands channels k
+      by false u p q h = absurd cc
+      by true false p q h = absurd cc
+      by true true p q h = record { bands_allowed = p; channels_allowed_lem = q; counts_are = cc }
 
-    pub kept_right : accepts m ≡ true
-    kept_right = (same (accepts m) (sym is ∙ judged)).0
+  -- of the memory length
+  pub length_refused : (e : CountError) → Err e ≡ counts_of bands channels → Err e ≡ memory_length_of bands channels
+  length_refused e is = by (counts_refused e is)
+    where
+      by : {e : CountError} → CountsRefused bands channels e → Err e ≡ memory_length_of bands channels
+      by (bands_wrong p) = search chosen_here
+      by (channels_wrong p q) = search (chosen_here, chosen_on)
 
-    pub kept_bands : bands ≡ bands_in m
-    kept_bands = (same (accepts m) (sym is ∙ judged)).1
+  pub length_is : (k : Counts) → Ok k ≡ counts_of bands channels → Ok (memory_length k.bands k.channels) ≡ memory_length_of bands channels
+  length_is k is =
+      let a = counts_are k is in
+      let b : count_allowed bands ≡ true = a.bands_allowed in
+      let n : channels_allowed channels ≡ true = a.channels_allowed_lem in
+      let l = ap long_enough a.counts_are in
+      search (chosen_on, chosen_last)
 
-    pub kept_channels : channels ≡ channels_in m
-    kept_channels = (same (accepts m) (sym is ∙ judged)).2
+  -- of preparing
+  pub prepare_refused : (m : List ℤ) (e : CountError) → Err e ≡ counts_of bands channels → Done (prepare_of bands channels m) (Err (of_count e)) m
+  prepare_refused m e is = by (counts_refused e is)
+    where
+      by : {e : CountError} → CountsRefused bands channels e → Done (prepare_of bands channels m) (Err (of_count e)) m
+      by (bands_wrong p) = search judging depth 12
+      by (channels_wrong p q) = search judging depth 12
+
+-- of a lent memory
+pub counts_first : (m : List ℤ) (e : CountError) → Err e ≡ counts_of (held_in m).count (held_in m).channels → First (memory_checks m) CountWrong
+counts_first m e is = by (counts_refused (held_in m).count (held_in m).channels e is)
+  where
+    by : {e : CountError} → CountsRefused (held_in m).count (held_in m).channels e → First (memory_checks m) CountWrong
+    by (bands_wrong p) = here p
+    by (channels_wrong p q) = later p (here q)

@@ -1,18 +1,14 @@
 -- What it says of a number to be within a range. Assumes nothing.
 use mathlib.Core.Path.{◌≡◌}
-use mathlib.Core.Bool.{Bool, true, false, not}
+use mathlib.Core.Bool.{true}
 use Prim.Native.Nat.{ℕ, suc, ◌+◌, ◌≤◌}
 use native.Mathlib.Omega.{arith}
-use borrow.Author.Tests.{not-false}
 use lib.Dec.{T}
 use lib.IntN.{ℤ, pos, negsuc, nat_abs}
 use lib.Signed.{non_neg}
-use mir.Syntax.{w32}
-use mir.Val.{SFits, to_z, of_z}
 use Rattle.answers.specs.Range.{within}
 use Rattle.answers.specs.Unit.{fewest_bands, most_bands, fewest_channels, most_channels}
 use Rattle.answers.proofs.Ranges.{within_ends}
-use Rattle.answers.proofs.Branches.{within_is}
 use Rattle.whole.proofs.Signed.{up, down, le_z_yes, lt_z_no}
 
 pub within_parts : (lo hi z : ℤ) → within lo hi z ≡ true → (up lo + down z ≤ up z + down lo) × (up z + down hi ≤ up hi + down z)
@@ -38,11 +34,3 @@ bands_of = count_of_lem 1 10
 -- one or two channels
 pub channels_of_lem : (z : ℤ) → within fewest_channels most_channels z ≡ true → Count 1 2 z
 channels_of_lem = count_of_lem 0 2
-
--- ---- .. as a call told it, of a number that the machine hands on as its bits
-
-pub bands_told : {z : ℤ} {r : Bool} → SFits w32 z → r ≡ within fewest_bands most_bands (to_z w32 (of_z w32 z)) → not r ≡ false → Count 2 10 z
-bands_told {z} {r} f e d = bands_of z (within_is fewest_bands most_bands f e (not-false r d))
-
-pub channels_told : {z : ℤ} {r : Bool} → SFits w32 z → r ≡ within fewest_channels most_channels (to_z w32 (of_z w32 z)) → not r ≡ false → Count 1 2 z
-channels_told {z} {r} f e d = channels_of_lem z (within_is fewest_channels most_channels f e (not-false r d))

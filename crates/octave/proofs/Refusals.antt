@@ -9,6 +9,7 @@ use borrow.Author.Tests.{eqb-true, leb-true, lt-ltb}
 use lib.Dec.{eqb, leb}
 use lib.ListN.{length}
 use lib.IntN.{ℤ, pos}
+use Rattle.std.specs.Prelude.{Result, Ok, Err}
 use Rattle.answers.specs.Answer.{Answer, refused, number_in, place_in}
 use Rattle.answers.specs.Checks.{check, all_hold, decide}
 use Rattle.answers.specs.Judging.{carried, all_refuse}
@@ -17,8 +18,8 @@ use Rattle.answers.specs.Unit.{least_sample, most_sample, largest_gain, block_li
 use Rattle.answers.proofs.Laws.{in_line, decided, every, eaching, unnumbered_holds}
 use Rattle.answers.proofs.Ranges.{first_at}
 use Rattle.frames.proofs.Laws.{whole_frames_lem}
-use Rattle.octave.specs.declared.block.Blocked.{Blocked}
-use Rattle.octave.specs.declared.block.Blocked.TheVariants.{Written, Memory, GainCount, Gain, OutputLength, PartFrame, TooLong, Sample}
+use Rattle.octave.specs.declared.block.BlockError.{BlockError}
+use Rattle.octave.specs.declared.block.BlockError.TheVariants.{Memory, GainCount, Gain, OutputLength, PartFrame, TooLong, Sample}
 use Rattle.octave.specs.declared.memory.Fault.{Fault}
 use Rattle.octave.specs.declared.memory.Fault.TheVariants.{CountWrong, LengthWrong, PositionOutside}
 use Rattle.octave.specs.Answer.{fault_number, block_answer}
@@ -43,28 +44,28 @@ pub one_list : (memory gains input output : List ℤ) →
     let c = channels_in memory in
     block_of memory gains input output ≡
     decide (
-    check (count_allowed (held_in memory).count) (Memory CountWrong) ∷
-    check (channels_allowed (held_in memory).channels) (Memory CountWrong) ∷
-    check (eqb (length memory) (memory_length M c)) (Memory LengthWrong) ∷
-    check (position_within (line_length M) (held_in memory).position) (Memory PositionOutside) ∷
-    check (eqb (length gains) M) GainCount ∷
-    check (all_within (pos 0) (pos largest_gain) gains) Gain ∷
-    check (eqb (length output) (length input)) OutputLength ∷
-    check (eqb (length input % c) 0) PartFrame ∷
-    check (leb (frames_of memory input) block_limit) TooLong ∷
-    check (all_within least_sample most_sample input) (Sample (first_outside least_sample most_sample input)) ∷ [])
-    (memory, output) (Written (frames_of memory input)) (equalised memory gains input)
+    check (count_allowed (held_in memory).count) (Err (Memory CountWrong)) ∷
+    check (channels_allowed (held_in memory).channels) (Err (Memory CountWrong)) ∷
+    check (eqb (length memory) (memory_length M c)) (Err (Memory LengthWrong)) ∷
+    check (position_within (line_length M) (held_in memory).position) (Err (Memory PositionOutside)) ∷
+    check (eqb (length gains) M) (Err GainCount) ∷
+    check (all_within (pos 0) (pos largest_gain) gains) (Err Gain) ∷
+    check (eqb (length output) (length input)) (Err OutputLength) ∷
+    check (eqb (length input % c) 0) (Err PartFrame) ∷
+    check (leb (frames_of memory input) block_limit) (Err TooLong) ∷
+    check (all_within least_sample most_sample input) (Err (Sample (first_outside least_sample most_sample input))) ∷ [])
+    (memory, output) (Ok (frames_of memory input)) (equalised memory gains input)
 unfolding carried
 one_list memory gains input output =
-    in_line (memory, output) (equalised memory gains input) (Written (frames_of memory input)) Memory PositionOutside (memory_checks memory) _
+    in_line (memory, output) (equalised memory gains input) (Ok (frames_of memory input)) (λ f. Err (Memory f)) PositionOutside (memory_checks memory) _
 
 -- an answer without a number: every check held
 pub block_held : (memory gains input output : List ℤ) → number_in (block_answer (block_of memory gains input output).result) ≡ 0 → all_hold (block_checks memory gains input output) ≡ true
 block_held memory gains input output e =
     let cs = block_checks memory gains input output in
-    let r = Written (frames_of memory input) in
+    let r = Ok (frames_of memory input) in
     unnumbered_holds block_answer cs r (block_refuses memory gains input output)
-    (sym (ap (λ (q : Blocked). number_in (block_answer q)) (decided (memory, output) (equalised memory gains input) r cs)) ∙ e)
+    (sym (ap (λ (q : Result ℕ BlockError). number_in (block_answer q)) (decided (memory, output) (equalised memory gains input) r cs)) ∙ e)
 
 -- ---- 8, of any call that answers it
 
@@ -85,8 +86,8 @@ module _ {R : Type 0} (answer_of : R → Answer ℕ) (input : List ℤ) (i : ℕ
 
 pub first_bad_lem : (memory gains input output : List ℤ) (i : ℕ) → Told block_answer input i (block_of memory gains input output).result
 first_bad_lem memory gains input output i =
-    every (memory, output) (equalised memory gains input) (Written (frames_of memory input)) (Told block_answer input i) (block_checks memory gains input output)
-    (search (eaching, not_fault block_answer input i Memory (λ f. refl), not_eight block_answer input i, eight block_answer input i Sample (λ k. refl)) depth 20)
+    every (memory, output) (equalised memory gains input) (Ok (frames_of memory input)) (Told block_answer input i) (block_checks memory gains input output)
+    (search (eaching, not_fault block_answer input i (λ f. Err (Memory f)) (λ f. refl), not_eight block_answer input i, eight block_answer input i (λ k. Err (Sample k)) (λ k. refl)) depth 20)
 
 -- the place of a bad sample in a block that is not too long
 pub bad_place : (memory input : List ℤ) → accepts memory ≡ true → eqb (length input % channels_in memory) 0 ≡ true → leb (frames_of memory input) block_limit ≡ true →

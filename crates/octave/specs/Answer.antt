@@ -1,23 +1,30 @@
--- The number and the value of each case that a call of this crate answers (rule 6.8). The numbers stand here alone.
-use Rattle.std.specs.Prelude.{ℕ}
-use Rattle.answers.specs.Answer.{Answer, accepted, refused}
-use Rattle.octave.specs.declared.memory.Length as lengths
-use Rattle.octave.specs.declared.memory.Prepared as prepared
+-- The number and the place of each error that a call of this crate answers (rule 6.8). The numbers stand here alone.
+use Rattle.std.specs.Prelude.{ℕ, Result}
+use Rattle.answers.specs.Answer.{Answer, answered, plain}
+use Rattle.answers.specs.declared.refused.Refused.{Refused}
+use Rattle.octave.specs.declared.memory.CountError as count
+use Rattle.octave.specs.declared.memory.PrepareError as prepare
 use Rattle.octave.specs.declared.memory.Fault as fault
-use Rattle.octave.specs.declared.block.Blocked as blocked
+use Rattle.octave.specs.declared.block.BlockError as block
 
 -- rule 6.8, memory length
-abbrev pub length_answer : lengths.Length → Answer ℕ
-length_answer (lengths.TheVariants.Places n) = accepted n
-length_answer lengths.TheVariants.BandCount = refused 1 0
-length_answer lengths.TheVariants.ChannelCount = refused 9 0
+abbrev pub count_refusal : count.CountError → Refused
+count_refusal count.TheVariants.BandCount = plain 1
+count_refusal count.TheVariants.ChannelCount = plain 9
+
+-- rule 6.8, memory length: the call's answer
+abbrev pub length_answer : Result ℕ count.CountError → Answer ℕ
+length_answer r = answered count_refusal r
 
 -- rule 6.8, prepare
-abbrev pub prepared_answer : prepared.Prepared → Answer ℕ
-prepared_answer (prepared.TheVariants.Delay t) = accepted t
-prepared_answer prepared.TheVariants.BandCount = refused 1 0
-prepared_answer prepared.TheVariants.ChannelCount = refused 9 0
-prepared_answer prepared.TheVariants.MemoryLength = refused 2 0
+abbrev pub prepare_refusal : prepare.PrepareError → Refused
+prepare_refusal prepare.TheVariants.BandCount = plain 1
+prepare_refusal prepare.TheVariants.ChannelCount = plain 9
+prepare_refusal prepare.TheVariants.MemoryLength = plain 2
+
+-- rule 6.8, prepare: the call's answer
+abbrev pub prepared_answer : Result ℕ prepare.PrepareError → Answer ℕ
+prepared_answer r = answered prepare_refusal r
 
 -- rule 6.8, block: the number of what is wrong with a lent memory
 abbrev pub fault_number : fault.Fault → ℕ
@@ -25,13 +32,20 @@ fault_number fault.TheVariants.CountWrong = 31
 fault_number fault.TheVariants.LengthWrong = 32
 fault_number fault.TheVariants.PositionOutside = 33
 
+-- rule 6.8, block: it has no place
+abbrev pub fault_refusal : fault.Fault → Refused
+fault_refusal f = plain (fault_number f)
+
 -- rule 6.8, block: 8 alone has a place, that of the sample
-abbrev pub block_answer : blocked.Blocked → Answer ℕ
-block_answer (blocked.TheVariants.Written n) = accepted n
-block_answer (blocked.TheVariants.Memory f) = refused (fault_number f) 0
-block_answer blocked.TheVariants.GainCount = refused 4 0
-block_answer blocked.TheVariants.Gain = refused 5 0
-block_answer blocked.TheVariants.OutputLength = refused 6 0
-block_answer blocked.TheVariants.PartFrame = refused 6 0
-block_answer blocked.TheVariants.TooLong = refused 7 0
-block_answer (blocked.TheVariants.Sample i) = refused 8 i
+abbrev pub block_refusal : block.BlockError → Refused
+block_refusal (block.TheVariants.Memory f) = fault_refusal f
+block_refusal block.TheVariants.GainCount = plain 4
+block_refusal block.TheVariants.Gain = plain 5
+block_refusal block.TheVariants.OutputLength = plain 6
+block_refusal block.TheVariants.PartFrame = plain 6
+block_refusal block.TheVariants.TooLong = plain 7
+block_refusal (block.TheVariants.Sample i) = record { number = 8; place = i }
+
+-- rule 6.8, block: the call's answer
+abbrev pub block_answer : Result ℕ block.BlockError → Answer ℕ
+block_answer r = answered block_refusal r

@@ -4,28 +4,21 @@ use Rattle.answers.specs.Range.{all_within}
 use Rattle.answers.specs.Unit.{largest_gain}
 use Rattle.block_rows.specs.Helpers.{Asked}
 use Rattle.octave.specs.Block.{equalised}
-use Rattle.octave.specs.Memory.{held_in, count_allowed, channels_allowed, bands_in, channels_in, accepts}
+use Rattle.octave.specs.Counts.{Counts}
+use Rattle.octave.specs.Memory.{counts_in, accepts}
 
--- a memory whose counts are allowed and are these
-pub record CountsKept (bands channels : ℕ) (memory : List ℤ) : Type 0 where
-  pub bands_allowed : count_allowed (held_in memory).count ≡ true
-  pub channels_allowed_lem : channels_allowed (held_in memory).channels ≡ true
-  pub bands_are : bands ≡ bands_in memory
-  pub channels_are : channels ≡ channels_in memory
-
--- an accepted memory of so many bands and channels
-pub record KeptCounts (bands channels : ℕ) (memory : List ℤ) : Type 0 where
+-- an accepted memory of these counts
+pub record KeptCounts (counts : Counts) (memory : List ℤ) : Type 0 where
   pub kept : accepts memory ≡ true
-  pub bands_are : bands ≡ bands_in memory
-  pub channels_are : channels ≡ channels_in memory
+  pub counts_are : counts ≡ counts_in memory
 
 -- what has been judged when the samples run; a band above the last gain has none
-pub record Judged (bands channels : ℕ) (memory gains input output : List ℤ) : Type 0 where
-  pub memory_kept : KeptCounts bands channels memory
-  pub counted : length gains ≤ bands
+pub record Judged (counts : Counts) (memory gains input output : List ℤ) : Type 0 where
+  pub memory_kept : KeptCounts counts memory
+  pub counted : length gains ≤ counts.bands
   pub allowed : all_within (pos 0) (pos largest_gain) gains ≡ true
   pub alike : length output ≡ length input
-  pub whole : length input % channels ≡ 0
+  pub whole : length input % counts.channels ≡ 0
 
 -- .. and of a second weighing, if it is asked for
 pub record JudgedAgain (bands : ℕ) (others input second : List ℤ) : Type 0 where

@@ -1,5 +1,7 @@
 -- The memory, and the calls.
-pub mod Answer
+pub mod Counts
 pub mod Memory
+pub mod Input
 pub mod Block
+pub mod Answer
 pub mod Helpers

@@ -1,19 +1,18 @@
 -- The line memory: its length, the prepared one, and which ones are accepted. The layout and each length: docs/LAYOUT.md.
-use Rattle.std.specs.Prelude.{Bool, false, cond, List, [], ◌∷◌, ℕ, ◌+◌, ◌-◌, ◌*◌, ◌^◌, eqb, ltb, length, get_or, drop, replicate, ℤ, pos, nat_abs}
+use Rattle.std.specs.Prelude.{Bool, false, cond, List, [], ◌∷◌, ℕ, ◌+◌, ◌-◌, ◌*◌, ◌^◌, eqb, ltb, length, get_or, drop, replicate, ℤ, pos, nat_abs, Result, Ok, Err}
 use Rattle.std.specs.Int.Signed.{lt_z}
 use Rattle.answers.specs.Checks.{Check, check, all_hold, choose, Outcome, decide}
 use Rattle.answers.specs.Range.{within}
 use Rattle.answers.specs.Unit.{fewest_bands, most_bands, fewest_channels, most_channels}
 use Rattle.tree.specs.Prototype.{published}
 use Rattle.tree.specs.Tree.{delay}
-use Rattle.octave.specs.declared.memory.Length.{Length}
-use Rattle.octave.specs.declared.memory.Length.TheVariants as place_count
-use Rattle.octave.specs.declared.memory.Prepared.{Prepared}
-use Rattle.octave.specs.declared.memory.Prepared.TheVariants.{Delay, BandCount, ChannelCount, MemoryLength}
+use Rattle.octave.specs.declared.memory.CountError.{CountError}
+use Rattle.octave.specs.declared.memory.CountError.TheVariants as count_error
+use Rattle.octave.specs.declared.memory.PrepareError.{PrepareError}
+use Rattle.octave.specs.declared.memory.PrepareError.TheVariants.{BandCount, ChannelCount, MemoryLength}
 use Rattle.octave.specs.declared.memory.Fault.{Fault}
 use Rattle.octave.specs.declared.memory.Fault.TheVariants.{CountWrong, LengthWrong, PositionOutside}
-use Rattle.octave.specs.declared.memory.Kept.{Kept}
-use Rattle.octave.specs.declared.memory.Kept.TheVariants.{Holds, Wrong}
+use Rattle.octave.specs.Counts.{Counts}
 
 -- rule 5.2: the places of a line of M bands, 9·2^(M-1)
 abbrev pub line_length : ℕ → ℕ
@@ -55,27 +54,38 @@ count_allowed = within fewest_bands most_bands
 abbrev pub channels_allowed : ℤ → Bool
 channels_allowed = within fewest_channels most_channels
 
+-- rule 6.8: what two counts are judged by, in order
+abbrev pub count_checks : {A : Type 0} → (bands channels : ℤ) → List (Check (Result A CountError))
+count_checks bands channels = check (count_allowed bands) (Err count_error.BandCount) ∷ check (channels_allowed channels) (Err count_error.ChannelCount) ∷ []
+
+-- rules 1.3, 1.10: two allowed counts, or which of them is not
+abbrev pub counts_of : (bands channels : ℤ) → Result Counts CountError
+counts_of bands channels = choose (count_checks bands channels) (Ok (record { bands = nat_abs bands; channels = nat_abs channels }))
+
 -- rule 6.8, memory length
-abbrev pub memory_length_of : (bands channels : ℤ) → Length
-memory_length_of bands channels =
-    choose (check (count_allowed bands) place_count.BandCount ∷ check (channels_allowed channels) place_count.ChannelCount ∷ [])
-    (place_count.Places (memory_length (nat_abs bands) (nat_abs channels)))
+abbrev pub memory_length_of : (bands channels : ℤ) → Result ℕ CountError
+memory_length_of bands channels = choose (count_checks bands channels) (Ok (memory_length (nat_abs bands) (nat_abs channels)))
 
 -- rule 5.5: the counts, the position 0, and zeros
 abbrev pub prepared : (M channels : ℕ) → List ℤ
 prepared M c = memory_of (record { count = pos M; channels = pos c; position = pos 0; lines = replicate (c * side_places M) (pos 0) })
 
+-- rule 6.8, prepare: a wrong count, as this call answers it
+abbrev pub of_count : CountError → PrepareError
+of_count count_error.BandCount = BandCount
+of_count count_error.ChannelCount = ChannelCount
+
 -- rule 6.8, prepare: its checks in order
-abbrev pub prepare_checks : (bands channels : ℤ) → List ℤ → List (Check Prepared)
+abbrev pub prepare_checks : (bands channels : ℤ) → List ℤ → List (Check (Result ℕ PrepareError))
 prepare_checks bands channels memory =
-    check (count_allowed bands) BandCount ∷
-    check (channels_allowed channels) ChannelCount ∷
-    check (eqb (length memory) (memory_length (nat_abs bands) (nat_abs channels))) MemoryLength ∷ []
+    check (count_allowed bands) (Err BandCount) ∷
+    check (channels_allowed channels) (Err ChannelCount) ∷
+    check (eqb (length memory) (memory_length (nat_abs bands) (nat_abs channels))) (Err MemoryLength) ∷ []
 
 -- rule 6.8, prepare: and the call: the delay and the prepared memory
-abbrev pub prepare_of : (bands channels : ℤ) → List ℤ → Outcome Prepared (List ℤ)
+abbrev pub prepare_of : (bands channels : ℤ) → List ℤ → Outcome (Result ℕ PrepareError) (List ℤ)
 prepare_of bands channels memory =
-    decide (prepare_checks bands channels memory) memory (Delay (delay published (nat_abs bands))) (prepared (nat_abs bands) (nat_abs channels))
+    decide (prepare_checks bands channels memory) memory (Ok (delay published (nat_abs bands))) (prepared (nat_abs bands) (nat_abs channels))
 
 -- rule 5.2: the band count that a memory holds; 0 where it has no place
 abbrev pub bands_in : List ℤ → ℕ
@@ -105,6 +115,10 @@ accepts memory = all_hold (memory_checks memory)
 abbrev pub fault_of : List ℤ → Fault
 fault_of memory = choose (memory_checks memory) PositionOutside
 
+-- rule 5.2: both counts
+abbrev pub counts_in : List ℤ → Counts
+counts_in memory = record { bands = bands_in memory; channels = channels_in memory }
+
 -- rule 5.4: a memory's counts, or what is wrong with it
-abbrev pub kept_of : List ℤ → Kept
-kept_of memory = cond (accepts memory) (Holds (bands_in memory) (channels_in memory)) (Wrong (fault_of memory))
+abbrev pub kept_of : List ℤ → Result Counts Fault
+kept_of memory = cond (accepts memory) (Ok (counts_in memory)) (Err (fault_of memory))

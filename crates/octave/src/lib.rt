@@ -2,6 +2,8 @@
 #![tactic(auto)]
 
 pub mod block;
+pub mod input;
 mod layout;
 pub mod memory;
+mod numbers;
 pub mod pass;

@@ -1,7 +1,8 @@
 // One pass of a block's samples through the lines. A helper of the calls, which have judged everything: it `requires` that.
 ghost use Rattle.octave.specs.Helpers.{Judged, JudgedAgain, Passed};
 
-use crate::layout::{HEAD, POSITION, line_length};
+use crate::layout::{HEAD, POSITION};
+use crate::memory::Counts;
 use block_sides::run::run;
 
 // The samples through the lines from the position on, and the position afterwards; the output under `gains`, and in the same pass, where there are
@@ -13,20 +14,19 @@ pub fn pass(
     input: &[i32],
     output: &mut [i32],
     second: &mut [i32],
-    bands: usize,
-    channels: usize,
+    counts: Counts,
 )
-    requires { Judged bands channels memory.old gains.now input.now output.old × JudgedAgain bands others.now input.now second.old }
+    requires { Judged counts memory.old gains.now input.now output.old × JudgedAgain counts.bands others.now input.now second.old }
     ensures { Passed memory.old gains.now others.now input.now memory.new output.new second.new }
 {
-    let size = line_length(bands);
+    let size = counts.line_length();
     let from = memory[POSITION] as usize;
     let at = run(
         &mut memory[HEAD..],
         size,
         from,
-        bands,
-        channels,
+        counts.bands,
+        counts.channels,
         gains,
         others,
         input,

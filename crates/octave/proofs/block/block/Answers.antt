@@ -1,12 +1,92 @@
-use Rattle.std.proofs.Common.{ap}
-use Rattle.answers.proofs.Laws.{refuses}
-use Rattle.octave.specs.declared.block.Blocked.TheVariants.{Memory}
-use Rattle.octave.proofs.Memories.{kept_wrong}
+-- Each return has the checks that led there.
+use Rattle.std.proofs.Common.{◌≡◌, ℕ, ◌%◌, ◌∙◌, ap, length, List, ℤ, pos, arith}
+use Rattle.std.specs.Prelude.{Result, Ok, Err}
+use Rattle.std.proofs.lemmas.Result.{err_from_is_err_and}
+use Rattle.answers.proofs.Laws.{refuses, goes_on}
+use Rattle.answers.specs.Range.{first_outside}
+use Rattle.answers.specs.Unit.{largest_gain}
+use Rattle.answers.proofs.Branches.{branches, judging, found_none}
+use borrow.Author.Tests.{eqb-true}
+use Rattle.octave.specs.declared.memory.Fault.{Fault}
+use Rattle.octave.specs.declared.block.BlockError.{BlockError}
+use Rattle.octave.specs.declared.block.BlockError.TheVariants.{Memory}
+use Rattle.octave.specs.Counts.{Counts}
+use Rattle.octave.specs.Helpers.{KeptCounts}
+use Rattle.octave.specs.Memory.{bands_in, channels_in}
+use Rattle.octave.specs.Input.{input_of}
+use Rattle.octave.specs.Block.{frames_of, equalised, of_input}
+use Rattle.octave.proofs.Memories.{kept_wrong, kept_right}
+use Rattle.octave.proofs.Inputs.{input_refused, input_right}
 use Rattle.octave.proofs.block.block.Goals as goal
 
-pub returns-in-Wrong : goal.returns-in-Wrong
-returns-in-Wrong c =
-    let wrong = kept_wrong c.args.memory.now c.judge.result c.judge.ensures c.in-Wrong.fault c.in-Wrong.is in
+bands_are : {m : List ℤ} {k : Counts} {n : ℕ} → KeptCounts k m → n ≡ k.bands → n ≡ bands_in m
+bands_are h e = e ∙ ap (λ (x : Counts). x.bands) h.counts_are
+
+of_counts : {m : List ℤ} {k : Counts} → KeptCounts k m → (input : List ℤ) → input_of k.channels input ≡ input_of (channels_in m) input
+of_counts h input = ap (λ (x : Counts). input_of x.channels input) h.counts_are
+
+abbrev faulty : Fault → Result ℕ BlockError
+faulty f = Err (Memory f)
+
+abbrev written : ℕ → Result ℕ BlockError
+written n = Ok n
+
+pub returns-in_err-counts : goal.returns-in_err-counts
+returns-in_err-counts c =
+    let p = err_from_is_err_and c.from_residual.result c.from_residual.ensures.1 in
+    let wrong = kept_wrong c.args.memory.now _ c.in_err-counts.ensures in
     let told = wrong.0 in
-    let is = ap Memory wrong.1 in
-    search refuses depth 12
+    let is = ap faulty wrong.1 in
+    rw (p.1, p.2) (search refuses depth 12)
+
+pub returns-then-gains-bands : goal.returns-then-gains-bands
+returns-then-gains-bands c =
+    let k = kept_right c.args.memory.now c.in_ok-counts.counts c.in_ok-counts.ensures in
+    let b = bands_are k c.bands.ensures in
+    search judging depth 12
+
+pub returns-then-first_outside-gains : goal.returns-then-first_outside-gains
+returns-then-first_outside-gains c =
+    let k = kept_right c.args.memory.now c.in_ok-counts.counts c.in_ok-counts.ensures in
+    let b = bands_are k c.bands.ensures in
+    search judging depth 12
+
+pub returns-then-output-input : goal.returns-then-output-input
+returns-then-output-input c =
+    let k = kept_right c.args.memory.now c.in_ok-counts.counts c.in_ok-counts.ensures in
+    let b = bands_are k c.bands.ensures in
+    search judging depth 12
+
+pub returns-in_err-frames : goal.returns-in_err-frames
+returns-in_err-frames c =
+    let m = c.args.memory.now in
+    let input = c.args.input.now in
+    let k = kept_right m c.in_ok-counts.counts c.in_ok-counts.ensures in
+    let b = bands_are k c.bands.ensures in
+    let p = err_from_is_err_and c.from_residual-in_err-frames.result c.from_residual-in_err-frames.ensures.1 in
+    let rest = input_refused (m, c.args.output.now) (equalised m c.args.gains.now input) (written (frames_of m input)) (λ e. Err (of_input e)) (channels_in m) input _ (c.in_err-frames.ensures ∙ of_counts k input) in
+    rw (p.1, p.2) (search (goes_on, branches) depth 12)
+
+pub equalise-requires : goal.equalise-requires
+equalise-requires c =
+    let gains = c.args.gains.now in
+    let input = c.args.input.now in
+    let counts = c.in_ok-counts.counts in
+    let right = input_right counts.channels input c.in_ok-frames.frames c.in_ok-frames.ensures in
+    record {
+      memory_kept = kept_right c.args.memory.now counts c.in_ok-counts.ensures;
+      counted = omega arith;
+      allowed = found_none (length gains) (first_outside (pos 0) (pos largest_gain) gains) c.first_outside.result c.first_outside.ensures c.if-first_outside-gains.false;
+      alike = omega arith;
+      whole = eqb-true (length input % counts.channels) 0 right.whole;
+    }
+
+pub returns : goal.returns
+returns c =
+    let m = c.args.memory.now in
+    let input = c.args.input.now in
+    let k = kept_right m c.in_ok-counts.counts c.in_ok-counts.ensures in
+    let b = bands_are k c.bands.ensures in
+    let right = input_right (channels_in m) input c.in_ok-frames.frames (c.in_ok-frames.ensures ∙ of_counts k input) in
+    let is = ap written right.frames_are in
+    search judging depth 14

@@ -1,26 +1,86 @@
 -- Each return has the tests that led there.
-use Rattle.std.proofs.Common.{◌≡◌, true, false, pos, get_or, arith}
+use Rattle.std.proofs.Common.{◌≡◌, ◌∙◌, true, false, ap, ap₂, ℕ, ℤ, List, length, arith, eqb, pos, nat_abs, le-ltb, eq-eqb, to_z-of_z, w32, get_or}
+use Rattle.std.specs.Prelude.{Result, Ok}
+use Rattle.std.proofs.lemmas.Result.{err_from_is_err_and}
+use lib.Signed.{lt_z}
+use mir.Val.{SFits, to_z, of_z}
 use borrow.Author.Rules.{sfits_of}
-use Rattle.answers.specs.Unit.{fewest_bands, most_bands, fewest_channels, most_channels}
 use Rattle.answers.specs.Judging.{here, later}
-use Rattle.answers.proofs.Branches.{within_is}
-use Rattle.octave.specs.declared.memory.Fault.TheVariants.{CountWrong}
-use Rattle.octave.specs.Memory.{count_allowed, channels_allowed}
-use Rattle.octave.proofs.Memories.{wrong_is, too_short}
+use Rattle.answers.proofs.Branches.{other}
+use Rattle.octave.specs.declared.memory.Fault.{Fault}
+use Rattle.octave.specs.declared.memory.Fault.TheVariants.{CountWrong, LengthWrong, PositionOutside}
+use Rattle.octave.specs.Counts.{Counts}
+use Rattle.octave.specs.Memory.{line_length, memory_length, bands_in, channels_in, held_in, position_within, counts_of}
+use Rattle.octave.proofs.Memories.{CountsAre, counts_are, counts_first, accepts_is, wrong_is, right_is, too_short}
 use Rattle.octave.proofs.memory.judge.Goals as goal
+
+abbrev holds : Counts → Result Counts Fault
+holds k = Ok k
+
+-- the counts, as they are read
+read : {b n : ℤ} → SFits w32 b → SFits w32 n → counts_of (to_z w32 (of_z w32 b)) (to_z w32 (of_z w32 n)) ≡ counts_of b n
+read f g = ap₂ counts_of (to_z-of_z f) (to_z-of_z g)
+
+-- the length that a memory of these counts has
+size : (m : List ℤ) {k : Counts} {n : ℕ} → n ≡ memory_length k.bands k.channels → CountsAre (held_in m).count (held_in m).channels k → n ≡ memory_length (bands_in m) (channels_in m)
+size m e a = e ∙ ap (λ (x : Counts). memory_length x.bands x.channels) a.counts_are
 
 pub returns-then-memory-lt-POSITION : goal.returns-then-memory-lt-POSITION
 returns-then-memory-lt-POSITION c = wrong_is c.args.memory.now CountWrong (too_short c.args.memory.now c.if-memory-lt-POSITION.true)
 
-pub returns-then-not-within : goal.returns-then-not-within
-returns-then-not-within c =
+pub returns-in_err-counts : goal.returns-in_err-counts
+returns-in_err-counts c =
     let m = c.args.memory.now in
-    let b : count_allowed (get_or m 0 (pos 0)) ≡ false = within_is fewest_bands most_bands {z = get_or m 0 (pos 0)} (sfits_of (omega arith)) c.within.ensures c.if-not-within.true in
-    wrong_is m CountWrong (here b)
+    let b : SFits w32 (get_or m 0 (pos 0)) = sfits_of (omega arith) in
+    let n : SFits w32 (get_or m 1 (pos 0)) = sfits_of (omega arith) in
+    let p = err_from_is_err_and c.from_residual.result c.from_residual.ensures.1 in
+    rw (p.1, p.2) (wrong_is m CountWrong (counts_first m _ (c.in_err-counts.ensures ∙ read b n)))
 
-pub returns-then-not-within-2 : goal.returns-then-not-within-2
-returns-then-not-within-2 c =
+pub returns-then-memory-memory_length : goal.returns-then-memory-memory_length
+returns-then-memory-memory_length c =
     let m = c.args.memory.now in
-    let b : count_allowed (get_or m 0 (pos 0)) ≡ true = within_is fewest_bands most_bands {z = get_or m 0 (pos 0)} (sfits_of (omega arith)) c.within.ensures c.if-not-within.false in
-    let n : channels_allowed (get_or m 1 (pos 0)) ≡ false = within_is fewest_channels most_channels {z = get_or m 1 (pos 0)} (sfits_of (omega arith)) c.within-2.ensures c.if-not-within-2.true in
-    wrong_is m CountWrong (later b (here n))
+    let b : SFits w32 (get_or m 0 (pos 0)) = sfits_of (omega arith) in
+    let n : SFits w32 (get_or m 1 (pos 0)) = sfits_of (omega arith) in
+    let k = counts_are (held_in m).count (held_in m).channels c.in_ok-counts.counts (c.in_ok-counts.ensures ∙ read b n) in
+    let l : eqb (length m) (memory_length (bands_in m) (channels_in m)) ≡ false =
+    other (length m) (memory_length (bands_in m) (channels_in m)) c.memory_length.result (size m c.memory_length.ensures k) c.if-memory-memory_length.true in
+    wrong_is m LengthWrong (later k.bands_allowed (later k.channels_allowed_lem (here l)))
+
+pub returns-then-at-lt0 : goal.returns-then-at-lt0
+returns-then-at-lt0 c =
+    let m = c.args.memory.now in
+    let b : SFits w32 (get_or m 0 (pos 0)) = sfits_of (omega arith) in
+    let n : SFits w32 (get_or m 1 (pos 0)) = sfits_of (omega arith) in
+    let at : SFits w32 (held_in m).position = sfits_of (omega arith) in
+    let k = counts_are (held_in m).count (held_in m).channels c.in_ok-counts.counts (c.in_ok-counts.ensures ∙ read b n) in
+    let long : eqb (length m) (memory_length (bands_in m) (channels_in m)) ≡ true =
+    eq-eqb (length m) (memory_length (bands_in m) (channels_in m)) (c.if-memory-memory_length.false ∙ size m c.memory_length.ensures k) in
+    let outside : position_within (line_length (bands_in m)) (held_in m).position ≡ false = rw (rw (to_z-of_z at) at c.if-at-lt0.true) in
+    wrong_is m PositionOutside (later k.bands_allowed (later k.channels_allowed_lem (later long (here outside))))
+
+pub returns-then-line_length-at : goal.returns-then-line_length-at
+returns-then-line_length-at c =
+    let m = c.args.memory.now in
+    let b : SFits w32 (get_or m 0 (pos 0)) = sfits_of (omega arith) in
+    let n : SFits w32 (get_or m 1 (pos 0)) = sfits_of (omega arith) in
+    let at : SFits w32 (held_in m).position = sfits_of (omega arith) in
+    let k = counts_are (held_in m).count (held_in m).channels c.in_ok-counts.counts (c.in_ok-counts.ensures ∙ read b n) in
+    let long : eqb (length m) (memory_length (bands_in m) (channels_in m)) ≡ true =
+    eq-eqb (length m) (memory_length (bands_in m) (channels_in m)) (c.if-memory-memory_length.false ∙ size m c.memory_length.ensures k) in
+    let not_below : lt_z (held_in m).position (pos 0) ≡ false = rw (to_z-of_z at) at c.if-at-lt0.false in
+    let past = rw (to_z-of_z at, c.line_length.ensures, k.counts_are) at c.if-line_length-at.true in
+    let outside : position_within (line_length (bands_in m)) (held_in m).position ≡ false =
+    rw (not_below, le-ltb (nat_abs (held_in m).position) (line_length (bands_in m)) past) in
+    wrong_is m PositionOutside (later k.bands_allowed (later k.channels_allowed_lem (later long (here outside))))
+
+pub returns : goal.returns
+returns c =
+    let m = c.args.memory.now in
+    let b : SFits w32 (get_or m 0 (pos 0)) = sfits_of (omega arith) in
+    let n : SFits w32 (get_or m 1 (pos 0)) = sfits_of (omega arith) in
+    let at : SFits w32 (held_in m).position = sfits_of (omega arith) in
+    let k = counts_are (held_in m).count (held_in m).channels c.in_ok-counts.counts (c.in_ok-counts.ensures ∙ read b n) in
+    let not_below : lt_z (held_in m).position (pos 0) ≡ false = rw (to_z-of_z at) at c.if-at-lt0.false in
+    let inside = rw (to_z-of_z at, c.line_length.ensures, k.counts_are) at c.if-line_length-at.false in
+    ap holds k.counts_are ∙
+    right_is m (accepts_is m k.bands_allowed k.channels_allowed_lem (c.if-memory-memory_length.false ∙ size m c.memory_length.ensures k) not_below inside)

@@ -1,25 +1,15 @@
-use Rattle.std.proofs.Common.{◌≡◌, ◌∙◌, true, false, ap, ap₂, ℤ, nat_abs, to_z-of_z}
-use Rattle.answers.specs.Unit.{fewest_bands, most_bands, fewest_channels, most_channels}
-use Rattle.answers.proofs.Branches.{within_is}
-use Rattle.answers.proofs.Laws.{chosen_here, chosen_on, chosen_last}
-use Rattle.octave.specs.declared.memory.Length.TheVariants.{Places}
-use Rattle.octave.specs.Memory.{memory_length, count_allowed, channels_allowed}
+use Rattle.std.proofs.Common.{ap₂, ◌∙◌, to_z-of_z}
+use Rattle.std.proofs.lemmas.Result.{err_from_is_err_and}
+use Rattle.octave.specs.Memory.{counts_of}
+use Rattle.octave.proofs.Memories.{length_refused, length_is}
 use Rattle.octave.proofs.memory.memory_length.Goals as goal
 
-pub returns-then-not-within : goal.returns-then-not-within
-returns-then-not-within c =
-    let b : count_allowed c.args.bands ≡ false = within_is fewest_bands most_bands c.ranges.bands c.within.ensures c.if-not-within.true in
-    search chosen_here
-
-pub returns-then-not-within-2 : goal.returns-then-not-within-2
-returns-then-not-within-2 c =
-    let b : count_allowed c.args.bands ≡ true = within_is fewest_bands most_bands c.ranges.bands c.within.ensures c.if-not-within.false in
-    let n : channels_allowed c.args.channels ≡ false = within_is fewest_channels most_channels c.ranges.channels c.within-2.ensures c.if-not-within-2.true in
-    search (chosen_here, chosen_on)
+pub returns-in_err-counts : goal.returns-in_err-counts
+returns-in_err-counts c =
+    let p = err_from_is_err_and c.from_residual.result c.from_residual.ensures.1 in
+    rw (p.1, p.2) (length_refused c.args.bands c.args.channels _ (c.in_err-counts.ensures ∙ ap₂ counts_of (to_z-of_z c.ranges.bands) (to_z-of_z c.ranges.channels)))
 
 pub returns : goal.returns
 returns c =
-    let b : count_allowed c.args.bands ≡ true = within_is fewest_bands most_bands c.ranges.bands c.within.ensures c.if-not-within.false in
-    let n : channels_allowed c.args.channels ≡ true = within_is fewest_channels most_channels c.ranges.channels c.within-2.ensures c.if-not-within-2.false in
-    let is = ap Places (c.whole_length.ensures ∙ ap₂ (λ (u v : ℤ). memory_length (nat_abs u) (nat_abs v)) (to_z-of_z c.ranges.bands) (to_z-of_z c.ranges.channels)) in
-    search (chosen_on, chosen_last)
+    rw c.memory_length.ensures
+    (length_is c.args.bands c.args.channels c.in_ok-counts.counts (c.in_ok-counts.ensures ∙ ap₂ counts_of (to_z-of_z c.ranges.bands) (to_z-of_z c.ranges.channels)))
