@@ -5,10 +5,10 @@ ghost use Rattle.printing.specs.Told.{numbered};
 
 use answers::refused::{Numbered, Refused};
 
-pub(crate) fn answer<E: Numbered>(result: Result<usize, E>) -> Result<u64, Refused>
-    ensures { numbered result ≡ answered E.refusal result }
+pub(crate) fn answer<E: Numbered>(answer: Result<usize, E>) -> Result<u64, Refused>
+    ensures { numbered result ≡ answered E.refusal answer }
 {
-    match result {
+    match answer {
         Ok(n) => Ok(n as u64),
         Err(error) => Err(error.refused()),
     }

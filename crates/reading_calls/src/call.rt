@@ -67,9 +67,9 @@ pub fn blocked(
     let input = first(cases, &mut lists.input);
     let output = first(cases, &mut lists.output);
     lent(rt, memory, gains, input, output)?;
-    let told_answer = answer(block(memory, gains, input, output));
-    told(rt, told_answer)?;
-    print!(rt; " {}", told_answer.err().map_or(0, |refused| refused.place))?;
+    let answered = answer(block(memory, gains, input, output));
+    told(rt, answered)?;
+    print!(rt; " {}", answered.err().map_or(0, |refused| refused.place))?;
     compared(rt, memory, &before.memory)?;
     compared(rt, output, &before.output)?;
     println!(rt)
