@@ -2,27 +2,17 @@
 use mathlib.Core.Path.{◌≡◌, sym, ap, ◌∙◌}
 use mathlib.Core.Bool.{Bool, true, false}
 use mathlib.Core.List.{List}
-use Prim.Native.Nat.{ℕ, ◌+◌, ◌-◌, ◌<◌, ◌≤◌}
+use Prim.Native.Nat.{ℕ, ◌+◌, ◌<◌, ◌≤◌}
 use native.Mathlib.Omega.{arith}
 use lib.ListN.{length, take, drop, length-append}
 use lib.Seq.{sets, drop-drop}
 use lib.Dec.{leb}
-use borrow.Author.Tests.{leb-true, leb-false, le-leb, lt-leb}
+use borrow.Author.Tests.{leb-true, leb-false}
 use Rattle.fields.specs.Bytes.{Order, number_in, field, row}
-use Rattle.fields.proofs.ByTest.{by-test}
 use Rattle.fields.proofs.Rows.{length-row, behind}
 use Rattle.chunks.specs.Walk.{header_length, chunk_header, size_in, next}
 
 -- ---- in the front
-
-pub no_header : (n at : ℕ) → n < at → false ≡ leb (at + header_length) n
-no_header n at l = sym (lt-leb (at + header_length) n (omega arith))
-
-pub header_room : (n at : ℕ) → at ≤ n → leb header_length (n - at) ≡ leb (at + header_length) n
-header_room n at l =
-    by-test (leb header_length (n - at))
-    (λ t. t ∙ sym (le-leb (at + header_length) n (omega (arith, leb-true header_length (n - at) t))))
-    (λ t. t ∙ sym (lt-leb (at + header_length) n (omega (arith, leb-false header_length (n - at) t))))
 
 -- what a reader's loop is told by the test
 module _ (n at : ℕ) (r : Bool) (is : r ≡ leb (at + header_length) n) where

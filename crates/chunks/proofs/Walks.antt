@@ -31,10 +31,6 @@ next_even at size even = omega arith
 pub lent_rest : (front : List ℕ) (at : ℕ) → take (length front - at) (drop at front) ≡ drop at front
 lent_rest front at = take_all (length front - at) (drop at front) (simp length-drop (omega arith))
 
--- .. with its header
-pub lent_header : (front : List ℕ) (at : ℕ) → at + header_length ≤ length front → header_length ≤ length (take (length front - at) (drop at front))
-lent_header front at l = rw (lent_rest front at) (simp length-drop (omega arith))
-
 -- rows that agree from a place on agree from any later place on
 drop-same : (k : ℕ) (a b : List ℕ) → drop k a ≡ drop k b → (at : ℕ) → k ≤ at → drop at a ≡ drop at b
 drop-same k a b e at l =

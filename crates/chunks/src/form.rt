@@ -12,11 +12,5 @@ pub fn is_form(front: &[u8], name: &[u8; 4], form: &[u8; 4]) -> bool
     requires { (length name.now ≡ 4) × (length form.now ≡ 4) }
     ensures { result ≡ is_form front.now name.now form.now }
 {
-    if front.len() < FORM_LENGTH {
-        return false;
-    }
-    if !named(front, 0, name) {
-        return false;
-    }
-    named(front, 8, form)
+    FORM_LENGTH <= front.len() && named(front, 0, name) && named(front, 8, form)
 }

@@ -5,15 +5,15 @@ ghost use Rattle.fields.specs.Bytes.{lowest};
 ghost use Rattle.chunks.specs.Walk.{header_length, chunk_header, size_in, contained, next};
 
 use crate::place::{HEADER_LENGTH, next_chunk};
-use fields::lowest::{four, put_four};
 use fields::names::put_name;
+use fields::number::{Lowest, number_at, put_number};
 
 // The length that the chunk's header states.
 pub fn size_in(rest: &[u8]) -> u32
     requires { header_length ≤ length rest.now }
     ensures { result ≡ size_in lowest rest.now }
 {
-    four(rest, 4)
+    number_at::<Lowest, 4>(rest, 4)
 }
 
 // Whether the chunk's contents are all in the front.
@@ -29,7 +29,7 @@ pub fn next_after(front: &[u8], at: usize) -> usize
     requires { at + header_length ≤ length front.now }
     ensures { result ≡ next at (size_in lowest (drop at front.now)) }
 {
-    next_chunk(at, four(front, at + 4))
+    next_chunk(at, number_at::<Lowest, 4>(front, at + 4))
 }
 
 // Writes a chunk's header.
@@ -38,5 +38,5 @@ pub fn put_chunk(buffer: &mut [u8], at: usize, name: &[u8; 4], size: u32)
     ensures { buffer.new ≡ sets buffer.old at (chunk_header lowest name.now size) }
 {
     put_name(buffer, at, name);
-    put_four(buffer, at + 4, size);
+    put_number::<Lowest, 4>(buffer, at + 4, size);
 }

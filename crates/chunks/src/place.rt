@@ -25,8 +25,5 @@ pub fn next_chunk(at: usize, size: u32) -> usize
 pub fn header_in(front: &[u8], at: usize) -> bool
     ensures { result ≡ leb (at + header_length) (length front.now) }
 {
-    if front.len() < at {
-        return false;
-    }
-    HEADER_LENGTH <= front.len() - at
+    HEADER_LENGTH <= front.len().saturating_sub(at)
 }

@@ -1,4 +1,5 @@
 pub mod ByTest
+pub mod FourBytes
 pub mod Naming
 pub mod Numbers
 pub mod Rows

@@ -1,14 +1,12 @@
--- Names: `same` is equality, its test at a place is four tests, and four stores put a name. Assumes nothing.
+-- Names: `same` is equality, and the code's `==`. Assumes nothing.
 use mathlib.Core.Path.{◌≡◌, refl, sym, ap, ◌∙◌}
-use mathlib.Core.Bool.{Bool, true, ◌&&◌, and-true, true≢false}
+use mathlib.Core.Bool.{Bool, true, ◌&&◌, true≢false}
 use mathlib.Core.List.{List, [], ◌∷◌}
-use Prim.Native.Nat.{ℕ, ◌+◌, ◌≤◌}
-use native.Mathlib.Nat.{add-zero}
-use native.Mathlib.Numerals.{add-one, add-two, add-three}
+use Prim.Native.Nat.{ℕ, ◌+◌, ◌-◌}
 use native.Mathlib.Omega.{arith}
-use lib.ListN.{length, get_or, take, drop, set, length-drop}
+use lib.ListN.{take, drop}
 use lib.Dec.{eqb}
-use lib.Seq.{sets, get_or-drop, take_all}
+use lib.Pointwise.{pointwise}
 use borrow.Author.Tests.{eq-eqb, eqb-true}
 use Rattle.answers.proofs.Laws.{and_left, and_right}
 use Rattle.fields.specs.Bytes.{same}
@@ -29,38 +27,17 @@ same_is (a ∷ s) (b ∷ t) h =
     ap (λ (x : ℕ). x ∷ s) (eqb-true a b (and_left (eqb a b) (same s t) h))
     ∙ ap (λ (r : List ℕ). b ∷ r) (same_is s t (and_right (eqb a b) (same s t) h))
 
--- ---- four bytes, one by one
+-- ---- the code's `==` of slices is `same`
 
-take_4 : (t : List ℕ) → 4 ≤ length t → take 4 t ≡ get_or t 0 0 ∷ get_or t 1 0 ∷ get_or t 2 0 ∷ get_or t 3 0 ∷ []
-take_4 [] h = absurd (omega arith)
-take_4 (a ∷ []) h = absurd (omega arith)
-take_4 (a ∷ b ∷ []) h = absurd (omega arith)
-take_4 (a ∷ b ∷ x ∷ []) h = absurd (omega arith)
-take_4 (a ∷ b ∷ x ∷ y ∷ t) h = refl
-
-pub row_4 : (s : List ℕ) → length s ≡ 4 → get_or s 0 0 ∷ get_or s 1 0 ∷ get_or s 2 0 ∷ get_or s 3 0 ∷ [] ≡ s
-row_4 s h = sym (take_4 s (omega arith)) ∙ take_all 4 s (omega arith)
-
--- whether four bytes at a place read a name is four tests
-same_at : (s name : List ℕ) (place : ℕ) → place + 4 ≤ length s → length name ≡ 4 →
-    same (take 4 (drop place s)) name
-    ≡ (eqb (get_or s place 0) (get_or name 0 0) && (eqb (get_or s (place + 1) 0) (get_or name 1 0) && (eqb (get_or s (place + 2) 0) (get_or name 2 0) && eqb (get_or s (place + 3) 0) (get_or name 3 0))))
+as_same : (s t : List ℕ) → pointwise eqb s t ≡ same s t
 unfolding same
-same_at s name place h e =
-    let t = drop place s in
-    let d = length-drop place s in
-    ap (λ (r : List ℕ). same r name) (take_4 t (omega arith))
-    ∙ ap (same (get_or t 0 0 ∷ get_or t 1 0 ∷ get_or t 2 0 ∷ get_or t 3 0 ∷ [])) (sym (row_4 name e))
-    ∙ rw (get_or-drop place s 0 0, add-zero place, get_or-drop place s 1 0, get_or-drop place s 2 0, get_or-drop place s 3 0, and-true (eqb (get_or s (place + 3) 0) (get_or name 3 0)))
+as_same [] [] = refl
+as_same [] (b ∷ t) = refl
+as_same (a ∷ s) [] = refl
+as_same (a ∷ s) (b ∷ t) = ap (λ (r : Bool). eqb a b && r) (as_same s t)
 
--- .. as a rule for search
-pub named_by : (s name : List ℕ) (place : ℕ) (r : Bool) → place + 4 ≤ length s → length name ≡ 4 →
-    r ≡ (eqb (get_or s place 0) (get_or name 0 0) && (eqb (get_or s (place + 1) 0) (get_or name 1 0) && (eqb (get_or s (place + 2) 0) (get_or name 2 0) && eqb (get_or s (place + 3) 0) (get_or name 3 0)))) →
-    r ≡ same (take 4 (drop place s)) name
-named_by s name place r h e d = d ∙ sym (same_at s name place h e)
-
--- ---- four stores
-
-pub put_4 : (l name : List ℕ) (at : ℕ) → length name ≡ 4 →
-    set (set (set (set l at (get_or name 0 0)) (at + 1) (get_or name 1 0)) (at + 2) (get_or name 2 0)) (at + 3) (get_or name 3 0) ≡ sets l at name
-put_4 l name at e = rw (add-one, add-two, add-three) (ap (sets l at) (row_4 name e))
+-- .. of the four bytes at a place
+pub named_by : (s name : List ℕ) (place : ℕ) (r : Bool) → r ≡ pointwise eqb (take (place + 4 - place) (drop place s)) name → r ≡ same (take 4 (drop place s)) name
+named_by s name place r e =
+    let size : place + 4 - place ≡ 4 = omega arith in
+    e ∙ ap (λ (k : ℕ). pointwise eqb (take k (drop place s)) name) size ∙ as_same (take 4 (drop place s)) name

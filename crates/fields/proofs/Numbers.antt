@@ -1,8 +1,8 @@
 -- Bytes and the numbers they stand for, the lowest byte first, over any width. Assumes nothing.
-use mathlib.Core.Path.{◌≡◌, refl, sym, ap, ◌∙◌, subst}
+use mathlib.Core.Path.{◌≡◌, refl, sym, ap, subst}
 use mathlib.Core.List.{List, [], ◌∷◌, ◌++◌}
 use Prim.Native.Nat.{ℕ, zero, suc, ◌+◌, ◌*◌, ◌/◌, ◌%◌, ◌^◌, ◌<◌}
-use native.Mathlib.Nat.{zero-add, suc-add, pow-zero, pow-succ', one-le-pow, mod-lt, div-one, mod-add-div, mod-eq_of_lt, div-div-eq-div-mul, add-mul-mod_self_left}
+use native.Mathlib.Nat.{pow-zero, pow-succ', one-le-pow}
 use native.Mathlib.Omega.{arith}
 use lib.ListN.{length, take, drop}
 use lib.Seq.{get_or-drop}
@@ -67,7 +67,7 @@ number-below (b ∷ s) bytes =
     let rest : number s < 256 ^ length s = number-below s (λ i. bytes (suc i)) in
     subst (λ (p : ℕ). b + 256 * number s < p) (sym (pow_more (length s))) (omega arith)
 
--- ---- rows joined, and widths added
+-- ---- rows joined
 
 pub number_append : (s t : List ℕ) → number (s ++ t) ≡ number s + 256 ^ length s * number t
 unfolding number
@@ -75,28 +75,3 @@ number_append [] t = omega arith
 number_append (b ∷ s) t =
     let rest : number (s ++ t) ≡ number s + 256 ^ length s * number t = number_append s t in
     rw (pow_more (length s)) (omega arith)
-
--- division by 256 * m in two steps
-module _ (m n : ℕ) (positive : 0 < m) where
-  split : n ≡ n % (256 * m) + 256 * (m * (n / (256 * m)))
-  split = let e = mod-add-div n (256 * m) in omega arith
-
-  low_byte : n % (256 * m) % 256 ≡ n % 256
-  low_byte = let e = split in omega arith
-
-  rest_low : n % (256 * m) / 256 ≡ n / 256 % m
-  rest_low =
-      let e = split in
-      let r = n % (256 * m) in
-      let q = n / (256 * m) in
-      let below : r < 256 * m = mod-lt n (omega arith) in
-      let over : n / 256 ≡ r / 256 + m * q = omega arith in
-      sym (ap (λ (k : ℕ). k % m) over ∙ add-mul-mod_self_left (r / 256) m q ∙ mod-eq_of_lt (omega arith))
-
-pub little_parts : (j k n : ℕ) → little (j + k) n ≡ little j (n % 256 ^ j) ++ little k (n / 256 ^ j)
-unfolding little
-little_parts zero k n = rw (zero-add k, div-one n)
-little_parts (suc j) k n =
-    let p = pow_positive j in
-    rw (suc-add j k, pow_more j, low_byte (256 ^ j) n p, rest_low (256 ^ j) n p, sym (div-div-eq-div-mul n 256 (256 ^ j)))
-    (ap (λ (t : List ℕ). n % 256 ∷ t) (little_parts j k (n / 256)))

@@ -2,7 +2,5 @@
 // Helpers for the crates above: each `requires` that its bytes are there.
 #![tactic(auto)]
 
-pub mod bytes;
-pub mod highest;
-pub mod lowest;
 pub mod names;
+pub mod number;

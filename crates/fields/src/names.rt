@@ -8,24 +8,12 @@ pub fn named(s: &[u8], place: usize, name: &[u8; 4]) -> bool
     requires { (place + 4 ≤ length s.now) × (length name.now ≡ 4) }
     ensures { result ≡ same (take 4 (drop place s.now)) name.now }
 {
-    if s[place] != name[0] {
-        return false;
-    }
-    if s[place + 1] != name[1] {
-        return false;
-    }
-    if s[place + 2] != name[2] {
-        return false;
-    }
-    s[place + 3] == name[3]
+    s[place..place + 4] == name[..]
 }
 
 pub fn put_name(buffer: &mut [u8], at: usize, name: &[u8; 4])
     requires { (at + 4 ≤ length buffer.old) × (length name.now ≡ 4) }
     ensures { buffer.new ≡ sets buffer.old at name.now }
 {
-    buffer[at] = name[0];
-    buffer[at + 1] = name[1];
-    buffer[at + 2] = name[2];
-    buffer[at + 3] = name[3];
+    buffer[at..at + 4].copy_from_slice(name);
 }

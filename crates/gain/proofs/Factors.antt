@@ -1,14 +1,17 @@
 -- What the promise says of a factor: which floats are refused, and the gain of the others in half steps.
 -- Assumes nothing.
-use Rattle.std.proofs.Common.{◌≡◌, ℕ, zero, suc, ◌+◌, ◌-◌, ◌*◌, ◌/◌, ◌%◌, ◌^◌, ◌<◌, ◌≤◌, Bool, true, false, T, ltb, pos, sym, refl, ap, ◌∙◌, subst, lt_of_le_of_lt, mod-lt, mul_comm, lt_of_mul-lt-mul_right, mul-lt-mul_of_pos_right, div-add-mod', arith, lit<, ltb-false, ltb-true, eq-eqb, ne_eqb, eqb-true, le-leb, leb-true}
+use Rattle.std.proofs.Common.{◌≡◌, ℕ, zero, suc, ◌+◌, ◌-◌, ◌*◌, ◌/◌, ◌%◌, ◌^◌, ◌<◌, ◌≤◌, Bool, true, false, T, ltb, leb, eqb, pos, sym, refl, ap, ◌∙◌, subst, lt_of_le_of_lt, mod-lt, mul_comm, lt_of_mul-lt-mul_right, mul-lt-mul_of_pos_right, div-add-mod', arith, lit<, eqb-true, leb-true, Ok, Err}
 use native.Mathlib.Nat.{add-div_right, div-div-eq-div-mul, div-le_of_le-mul}
-use borrow.Author.Tests.{lt-leb}
-use lib.Ieee.{Float, nan, inf, fin, binary32, up, down, lt, ne, mul, fits}
-use lib.Ieee.Compare.{differs_from_itself}
+use lib.Ieee.{Float, nan, inf, fin, binary32, up, down, level, lt, eq, mul, fits}
+use mathlib.Core.Bool.{cond, ◌&&◌, ◌||◌}
+use Rattle.std.specs.Prelude.{Some, None}
+use Rattle.std.proofs.Common.{Less, Equal, Greater}
+use Rattle.std.specs.Ordering.{is_le, is_some_and, partial_lt, partial_le, float_partial_cmp}
+use Rattle.std.proofs.lemmas.Bool.Decides.{nat_tests}
 use lib.Ieee.Fits.{down_pos}
 use Rattle.answers.specs.Unit.{unity}
 use Rattle.gain.specs.Factor.{nearest_up, up_to_four, times_gain, factor_gain}
-use Rattle.gain.specs.declared.Gained.TheVariants.{Gain, NotFactor}
+use Rattle.gain.specs.declared.GainError.TheVariants.{NotFactor}
 use Rattle.gain.proofs.Halves.{true_is_not_false}
 use Rattle.gain.proofs.Product.{exact, Cut, cut}
 
@@ -47,20 +50,61 @@ Accepted nan = ⊥
 Accepted (inf s) = ⊥
 Accepted (fin s m e) = up_to_four s (m * up e) (down e) ≡ true
 
-zero_left : (v d : ℕ) → ltb 0 (v * 1 + 0 * 1 * d) ≡ false → v ≡ 0
-zero_left v d e = let l = ltb-false 0 (v * 1 + 0 * 1 * d) e in omega arith
+-- ---- the code's test: `(0.0..=4.0).contains(&x)`
 
-four_at_most : (v d : ℕ) → ltb (1 * 2 ^ 2 * d) (v * 1) ≡ false → v ≤ 4 * d
-four_at_most v d e = let l = ltb-false (1 * 2 ^ 2 * d) (v * 1) e in omega arith
+-- what a test of order finds of two floats
+at_most : (x y : Float) → partial_le float_partial_cmp x y ≡ (lt x y || eq x y)
+at_most x y = by (lt x y) (eq x y) (lt y x)
+  where
+    by : (a b c : Bool) → is_some_and is_le (cond a (Some Less) (cond b (Some Equal) (cond c (Some Greater) None))) ≡ (a || b)
+    by true b c = refl
+    by false true c = refl
+    by false false true = refl
+    by false false false = refl
 
--- past the three tests of the code
-pub not_refused : (x : Float) → ne x x ≡ false → lt x (fin false 0 (pos 0)) ≡ false → lt (fin false 1 (pos 2)) x ≡ false → Accepted x
-unfolding ne lt
-not_refused nan d l g = absurd (true_is_not_false d)
-not_refused (inf true) d l g = absurd (true_is_not_false l)
-not_refused (inf false) d l g = absurd (true_is_not_false g)
-not_refused (fin true m e) d l g = eq-eqb (m * up e) 0 (zero_left (m * up e) (down e) l)
-not_refused (fin false m e) d l g = le-leb (m * up e) (4 * down e) (four_at_most (m * up e) (down e) g)
+-- of -v/d and of v/d
+below_zero : (v d : ℕ) → 0 < d → (level false (0 * d) true (v * 1) && (ltb 0 (v * 1 + 4 * d) || level true (v * 1) false (4 * d))) ≡ eqb v 0
+below_zero v d p = grind (arith, nat_tests)
+
+from_zero : (v d : ℕ) → ((ltb (0 * d) (v * 1) || level false (0 * d) false (v * 1)) && (ltb (v * 1) (4 * d) || level false (v * 1) false (4 * d))) ≡ leb v (4 * d)
+from_zero v d = grind (arith, nat_tests)
+
+-- what the test comes to
+abbrev allowed : Float → Bool
+allowed nan = false
+allowed (inf s) = false
+allowed (fin s m e) = up_to_four s (m * up e) (down e)
+
+in_range : (x : Float) →
+    ((lt (fin false 0 (pos 0)) x || eq (fin false 0 (pos 0)) x) && (lt x (fin false 1 (pos 2)) || eq x (fin false 1 (pos 2)))) ≡ allowed x
+unfolding lt eq
+in_range nan = refl
+in_range (inf true) = refl
+in_range (inf false) = refl
+in_range (fin true m e) = below_zero (m * up e) (down e) (down_pos e)
+in_range (fin false m e) = from_zero (m * up e) (down e)
+
+module _ (x a b : Float) (past t : Bool) (is_a : a ≡ fin false 0 (pos 0)) (is_b : b ≡ fin false 1 (pos 2)) (fresh : past ≡ false)
+    (told : t ≡ (partial_le float_partial_cmp a x && cond past (partial_lt float_partial_cmp x b) (partial_le float_partial_cmp x b))) where
+  tells : t ≡ allowed x
+  tells = told ∙ rw (is_a, is_b, fresh, at_most (fin false 0 (pos 0)) x, at_most x (fin false 1 (pos 2))) (in_range x)
+
+  pub not_refused : t ≡ true → Accepted x
+  not_refused e = by x (sym tells ∙ e)
+    where
+      by : (y : Float) → allowed y ≡ true → Accepted y
+      by nan h = absurd (true_is_not_false (sym h))
+      by (inf s) h = absurd (true_is_not_false (sym h))
+      by (fin s m e) h = h
+
+  pub refused : t ≡ false → factor_gain x ≡ Err NotFactor
+  unfolding factor_gain times_gain
+  refused e = by x (sym tells ∙ e)
+    where
+      by : (y : Float) → allowed y ≡ false → factor_gain y ≡ Err NotFactor
+      by nan h = refl
+      by (inf s) h = refl
+      by (fin s m e) h = rw h
 
 -- the size of a finite float in half steps of gain, cut to a whole number
 unfoldable pub half_steps : Float → ℕ
@@ -107,37 +151,8 @@ half_step v d p =
     ∙ sym (div-div-eq-div-mul (v * 2 ^ 13 + d) d 2)
     ∙ ap (λ (x : ℕ). x / 2) (add-div_right (v * 2 ^ 13) p)
 
-pub accepted_steps : (x : Float) → Accepted x → factor_gain x ≡ Gain (pos ((half_steps x + 1) / 2))
+pub accepted_steps : (x : Float) → Accepted x → factor_gain x ≡ Ok (pos ((half_steps x + 1) / 2))
 unfolding factor_gain times_gain half_steps
 accepted_steps nan a = absurd a
 accepted_steps (inf s) a = absurd a
 accepted_steps (fin s m e) a = rw (a, half_step (m * up e) (down e) (down_pos e))
-
--- ---- refused
-
-pub refused_nan : (x : Float) → ne x x ≡ true → factor_gain x ≡ NotFactor
-unfolding factor_gain
-refused_nan x e = rw (differs_from_itself x (subst T (sym e) tt))
-
-not_zero : (v d : ℕ) → ltb 0 (v * 1 + 0 * 1 * d) ≡ true → v ≡ 0 → ⊥
-not_zero v d e z = let l = ltb-true 0 (v * 1 + 0 * 1 * d) e in omega arith
-
-none_below : (v d : ℕ) → ltb (v * 1) (0 * 1 * d) ≡ true → ⊥
-none_below v d e = let l = ltb-true (v * 1) (0 * 1 * d) e in omega arith
-
-pub refused_below : (x : Float) → lt x (fin false 0 (pos 0)) ≡ true → factor_gain x ≡ NotFactor
-unfolding factor_gain times_gain lt
-refused_below nan e = refl
-refused_below (inf s) e = refl
-refused_below (fin true m k) e = rw (ne_eqb (m * up k) 0 (not_zero (m * up k) (down k) e))
-refused_below (fin false m k) e = absurd (none_below (m * up k) (down k) e)
-
-past_four : (v d : ℕ) → ltb (1 * 2 ^ 2 * d) (v * 1) ≡ true → 4 * d < v
-past_four v d e = let l = ltb-true (1 * 2 ^ 2 * d) (v * 1) e in omega arith
-
-pub refused_above : (x : Float) → lt (fin false 1 (pos 2)) x ≡ true → factor_gain x ≡ NotFactor
-unfolding factor_gain times_gain lt
-refused_above nan e = refl
-refused_above (inf s) e = refl
-refused_above (fin true m k) e = absurd (true_is_not_false (sym e))
-refused_above (fin false m k) e = rw (lt-leb (m * up k) (4 * down k) (past_four (m * up k) (down k) e))

@@ -1,13 +1,13 @@
 -- Floats with the value n/2: which floats equal one, and what the promise says of them.
 -- Assumes nothing.
-use Rattle.std.proofs.Common.{◌≡◌, ℕ, zero, suc, ◌*◌, ◌/◌, ◌%◌, ◌<◌, ◌≤◌, Bool, true, false, cond, ◌&&◌, ◌||◌, eqb, leb, ℤ, pos, nat_abs, sym, refl, ap, ◌∙◌, div-add-mod', zero-mul, mul-div_cancel, arith, eq-eqb, eqb-true, le-leb, leb-true}
+use Rattle.std.proofs.Common.{◌≡◌, ℕ, zero, suc, ◌*◌, ◌/◌, ◌%◌, ◌<◌, ◌≤◌, Bool, true, false, cond, ◌&&◌, ◌||◌, eqb, leb, ℤ, pos, nat_abs, sym, refl, ap, ◌∙◌, div-add-mod', zero-mul, mul-div_cancel, arith, eq-eqb, eqb-true, le-leb, leb-true, Ok, Err}
 use mathlib.Core.Bool.{beq}
 use native.Mathlib.Nat.{eq_of_mul-eq-mul_right, mul-mod_left}
 use lib.Ieee.{Float, nan, inf, fin, up, down, level, eq}
 use lib.Ieee.Fits.{down_pos}
 use Rattle.gain.specs.Table.{entry}
 use Rattle.gain.specs.Decibels.{signed, Half, halves_gain, decibels_gain}
-use Rattle.gain.specs.declared.Gained.TheVariants.{Gain, NotHalfDecibels}
+use Rattle.gain.specs.declared.GainError.TheVariants.{NotHalfDecibels}
 
 -- ---- tests
 
@@ -114,7 +114,7 @@ equal_halves (fin s m d) (fin t k c) n g h =
 -- ---- the promise: accepted exactly if a whole n from -24 to 24 exists with value n/2
 
 -- such an n, and the gain is its entry
-pub accepted_half : (x : Float) (n : ℤ) → nat_abs n ≤ 24 → Half x n → decibels_gain x ≡ Gain (pos (entry n))
+pub accepted_half : (x : Float) (n : ℤ) → nat_abs n ≤ 24 → Half x n → decibels_gain x ≡ Ok (pos (entry n))
 unfolding decibels_gain halves_gain
 accepted_half nan n l h = absurd h
 accepted_half (inf s) n l h = absurd h
@@ -135,13 +135,13 @@ whole_half s t d e =
     rw signed_size (omega arith, refl, l)
 
 -- no such n, and the answer is that it is none
-pub refused_half : (x : Float) → ((n : ℤ) → nat_abs n ≤ 24 → Half x n → ⊥) → decibels_gain x ≡ NotHalfDecibels
+pub refused_half : (x : Float) → ((n : ℤ) → nat_abs n ≤ 24 → Half x n → ⊥) → decibels_gain x ≡ Err NotHalfDecibels
 unfolding decibels_gain halves_gain
 refused_half nan none = refl
 refused_half (inf s) none = refl
 refused_half (fin s m e) none = go (eqb (2 * (m * up e) % down e) 0 && leb (2 * (m * up e) / down e) 24) refl
   where
     go : (b : Bool) → (eqb (2 * (m * up e) % down e) 0 && leb (2 * (m * up e) / down e) 24) ≡ b →
-        cond b (Gain (pos (entry (signed s (2 * (m * up e) / down e))))) NotHalfDecibels ≡ NotHalfDecibels
+        cond b (Ok (pos (entry (signed s (2 * (m * up e) / down e))))) (Err NotHalfDecibels) ≡ Err NotHalfDecibels
     go true h = let w = whole_half s (2 * (m * up e)) (down e) h in absurd (none (signed s (2 * (m * up e) / down e)) w.2 (w.0, w.1))
     go false h = refl

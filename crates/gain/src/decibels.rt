@@ -1,9 +1,10 @@
 // Decibels to a gain: one table, one entry for each half decibel from -12 to 12.
-ghost use Rattle.std.specs.Prelude.{◌≡◌, ◌<◌, pos, ◌-ℤ◌};
+ghost use Rattle.std.specs.Prelude.{◌≡◌, ℕ, ◌<◌, false, true, pos, ◌-ℤ◌, MatchOption};
+ghost use Rattle.std.specs.Float.Ieee.{eq};
 ghost use Rattle.gain.specs.Decibels.{decibels_gain, half_decibel};
 ghost use Rattle.gain.specs.Table.{entry};
 
-use crate::Gained;
+use crate::GainError;
 
 // Entry i is the nearest whole number to 4,096·10^((i - 24)/40).
 const GAINS: [i32; 49] = [
@@ -13,28 +14,31 @@ const GAINS: [i32; 49] = [
     14533, 15394, 16306,
 ];
 
-fn gain_at(i: usize) -> i32
+fn gain_at(i: u8) -> i32
     requires { i < 49 }
     ensures { result ≡ pos (entry (pos i -ℤ pos 24)) }
 {
-    GAINS[i]
+    GAINS[usize::from(i)]
 }
 
 // The half decibel of entry i, exactly: -12.0, -11.5, .. 12.0.
 pub fn half_decibel(i: u8) -> f32
     ensures { result ≡ half_decibel i }
 {
-    (i as f32 - 24.0) * 0.5
+    (f32::from(i) - 24.0) * 0.5
 }
 
-// The gain of x decibels. Equality of floats takes -0.0 for 0, and a NaN for nothing.
-pub(crate) fn decibels(x: f32) -> Gained
+// The first entry whose half decibel x is. Equality of floats takes -0.0 for 0, and a NaN for nothing.
+fn place_of(x: f32) -> Option<u8>
+    ensures { MatchOption result ((k : ℕ) → k < 49 → eq x (half_decibel k) ≡ false) (λ i. (i < 49) × (eq x (half_decibel i) ≡ true)) }
+{
+    (0..49).find(|i| x == half_decibel(*i))
+}
+
+// The gain of x decibels.
+pub(crate) fn decibels(x: f32) -> Result<i32, GainError>
     ensures { result ≡ decibels_gain x }
 {
-    for i in 0..49 {
-        if x == half_decibel(i) {
-            return Gained::Gain(gain_at(i as usize));
-        }
-    }
-    Gained::NotHalfDecibels
+    let place = place_of(x).ok_or(GainError::NotHalfDecibels)?;
+    Ok(gain_at(place))
 }

@@ -2,35 +2,53 @@
 #![tactic(auto)]
 
 ghost use Rattle.std.specs.Prelude.{◌≡◌};
+ghost use Rattle.std.proofs.Common.{rules};
+ghost use Rattle.gain.specs.Answer.{gain_refusal};
 ghost use Rattle.gain.specs.Promise.{command_gain};
 
 mod decibels;
 mod factor;
 
+use answers::refused::{Numbered, Refused};
 pub use decibels::half_decibel;
 
-#[derive(Clone, Copy)]
+#[derive(Clone, Copy, Debug, PartialEq)]
 pub enum Command {
     Decibels(f32),
     Factor(f32),
     Off,
 }
 
-// A gain from 0 to 16,384, where 4,096 is unity; or refusal 11, or refusal 12.
-#[derive(Clone, Copy)]
-pub enum Gained {
-    Gain(i32),
+// What a command is refused with.
+#[derive(Clone, Copy, Debug, PartialEq, Eq)]
+pub enum GainError {
+    // 11
     NotHalfDecibels,
+    // 12
     NotFactor,
 }
 
-// The one gain of a command: from the table for decibels, the nearest for a factor, 0 for off.
-pub fn gain(command: Command) -> Gained
+impl Numbered for GainError {
+    ghost refusal = { gain_refusal };
+
+    fn refused(self) -> Refused {
+        match self {
+            GainError::NotHalfDecibels => Refused::plain(11),
+            GainError::NotFactor => Refused::plain(12),
+        }
+    }
+
+    ghost has_number = { Prim.search rules };
+}
+
+// The one gain of a command, from 0 to 16,384, where 4,096 is unity: from the table for decibels, the nearest for a factor,
+// 0 for off.
+pub fn gain(command: Command) -> Result<i32, GainError>
     ensures { result ≡ command_gain command }
 {
     match command {
         Command::Decibels(x) => decibels::decibels(x),
         Command::Factor(x) => factor::factor(x),
-        Command::Off => Gained::Gain(0),
+        Command::Off => Ok(0),
     }
 }
