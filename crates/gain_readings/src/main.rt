@@ -1,12 +1,15 @@
 // What the gain command answers to the floats below, to the floats next to them, and to the negatives of all of these.
 #![tactic(auto)]
 
-ghost use Rattle.std.specs.Prelude.{◌≡◌, unsigned_abs, IfOk};
+ghost use Rattle.std.specs.Prelude.{◌≡◌, unsigned_abs};
+ghost use Rattle.gain.specs.Answer.{answer_of};
+ghost use Rattle.printing.specs.Told.{numbered, with_value};
 
 use answers::refused::{Numbered, Refused};
 use gain::{Command, GainError};
 use printing::told;
 use std::io;
+use std::num::f32_from_bits_with_nan;
 
 // 0, 0.5, 1, 1.5, .. 12, as bit patterns: the half decibels.
 const HALVES: [u32; 25] = [
@@ -31,17 +34,10 @@ const ENDS: [u32; 7] = [
     0x00000000, 0x007fffff, 0x3f800000, 0x40800000, 0x41480000, 0x7f800000, 0x7fc00000,
 ];
 
-// The float of a bit pattern. Above infinity's the pattern is a NaN's.
-fn float(bits: u32) -> f32 {
-    if 0x7f800000 < bits % 0x80000000 {
-        f32::NAN
-    } else {
-        f32::from_bits(bits)
-    }
-}
-
 // A gain without its sign, or its refusal.
-fn unsigned(gained: Result<i32, GainError>) -> Result<u64, Refused> {
+fn unsigned(gained: Result<i32, GainError>) -> Result<u64, Refused>
+    ensures { numbered result ≡ with_value unsigned_abs (answer_of gained) }
+{
     match gained {
         Ok(gain) => Ok(u64::from(gain.unsigned_abs())),
         Err(error) => Err(error.refused()),
@@ -67,7 +63,7 @@ fn each<F: Fn(f32) -> Command>(
             let bits = pattern.wrapping_add(sign);
             for near in [bits.wrapping_sub(1), bits, bits.wrapping_add(1)] {
                 print!(rt; "{name} {near:08x}")?;
-                write(rt, command(float(near)))?;
+                write(rt, command(f32_from_bits_with_nan(near)))?;
             }
         }
     }
