@@ -1,18 +1,22 @@
--- The number and the value of each case that the crossover call answers (rule 6.8). The numbers stand here alone.
-use Rattle.std.specs.Prelude.{ℕ}
-use Rattle.answers.specs.Answer.{Answer, accepted, refused}
-use Rattle.octave.specs.Answer.{fault_number}
-use Rattle.crossover.specs.declared.cross.Crossed as crossed
+-- The number and the place of each error that the crossover call answers (rule 6.8). The numbers stand here alone.
+use Rattle.std.specs.Prelude.{ℕ, Result}
+use Rattle.answers.specs.Answer.{Answer, answered, plain}
+use Rattle.answers.specs.declared.refused.Refused.{Refused}
+use Rattle.octave.specs.Answer.{fault_refusal}
+use Rattle.crossover.specs.declared.cross.CrossError as cross
 
 -- rule 6.8, crossover: 8 alone has a place, that of the sample
-abbrev pub cross_answer : crossed.Crossed → Answer ℕ
-cross_answer (crossed.TheVariants.Written n) = accepted n
-cross_answer (crossed.TheVariants.Memory f) = refused (fault_number f) 0
-cross_answer crossed.TheVariants.GainCount = refused 4 0
-cross_answer crossed.TheVariants.Split = refused 10 0
-cross_answer crossed.TheVariants.Gain = refused 5 0
-cross_answer crossed.TheVariants.BassLength = refused 6 0
-cross_answer crossed.TheVariants.HornLength = refused 6 0
-cross_answer crossed.TheVariants.PartFrame = refused 6 0
-cross_answer crossed.TheVariants.TooLong = refused 7 0
-cross_answer (crossed.TheVariants.Sample i) = refused 8 i
+abbrev pub cross_refusal : cross.CrossError → Refused
+cross_refusal (cross.TheVariants.Memory f) = fault_refusal f
+cross_refusal cross.TheVariants.GainCount = plain 4
+cross_refusal cross.TheVariants.Split = plain 10
+cross_refusal cross.TheVariants.Gain = plain 5
+cross_refusal cross.TheVariants.BassLength = plain 6
+cross_refusal cross.TheVariants.HornLength = plain 6
+cross_refusal cross.TheVariants.PartFrame = plain 6
+cross_refusal cross.TheVariants.TooLong = plain 7
+cross_refusal (cross.TheVariants.Sample i) = record { number = 8; place = i }
+
+-- rule 6.8, crossover: the call's answer
+abbrev pub cross_answer : Result ℕ cross.CrossError → Answer ℕ
+cross_answer r = answered cross_refusal r

@@ -3,6 +3,7 @@ ghost use Rattle.std.specs.Prelude.{◌≡◌, ◌≤◌, length};
 ghost use Rattle.crossover.specs.Cross.{crossed};
 ghost use Rattle.crossover.specs.Helpers.{FromOn, Ready};
 
+use octave::memory::Counts;
 use octave::pass::pass;
 
 // The gains from place `from` on, each in its place; 0 before it.
@@ -11,11 +12,7 @@ fn from_on(gains: &[i32], from: usize) -> [i32; 10]
     ensures { FromOn from gains.now result }
 {
     let mut found = [0i32; 10];
-    let mut i = from;
-    while i < gains.len() {
-        found[i] = gains[i];
-        i += 1;
-    }
+    found[from..gains.len()].copy_from_slice(&gains[from..]);
     found
 }
 
@@ -27,21 +24,19 @@ pub(crate) fn feed_both(
     input: &[i32],
     bass: &mut [i32],
     horn: &mut [i32],
-    bands: usize,
-    channels: usize,
+    counts: Counts,
 )
-    requires { Ready bands channels memory.old gains.now s input.now bass.old horn.old }
+    requires { Ready counts memory.old gains.now s input.now bass.old horn.old }
     ensures { (memory.new, bass.new, horn.new) ≡ crossed memory.old gains.now s input.now }
 {
     let high = from_on(gains, s);
     pass(
         memory,
         &gains[..s],
-        &high[..bands],
+        &high[..gains.len()],
         input,
         bass,
         horn,
-        bands,
-        channels,
+        counts,
     );
 }

@@ -1,19 +1,21 @@
 // The crossover call.
+ghost use Rattle.std.specs.Prelude.{◌≡◌};
 ghost use Rattle.answers.specs.Checks.{Done};
-ghost use Rattle.octave.specs.Helpers.{KeptCounts};
-ghost use Rattle.crossover.specs.Cross.{cross_of};
-ghost use Rattle.crossover.specs.Helpers.{Measured};
+ghost use Rattle.crossover.specs.declared.cross.CrossError.TheVariants.{Memory};
+ghost use Rattle.crossover.specs.Answer.{cross_refusal};
+ghost use Rattle.crossover.specs.Cross.{of_input, cross_of};
+ghost use Rattle.std.proofs.Common.{rules};
 
 use crate::both::feed_both;
 use answers::range::{first_outside, within};
-use answers::unit::{BLOCK_LIMIT, LARGEST_GAIN, LEAST_SAMPLE, MOST_SAMPLE};
-use frames::count::{frames_in, whole_frames};
-use octave::memory::{Fault, Kept, judge};
+use answers::refused::{Numbered, Refused};
+use answers::unit::LARGEST_GAIN;
+use octave::input::{InputError, judge_input};
+use octave::memory::{Fault, judge};
 
-// What a crossover call answers: how many frames were written, or why it was refused; a sample by its place in the input.
-#[derive(Clone, Copy)]
-pub enum Crossed {
-    Written(usize),
+// Why a crossover call was refused; a sample by its place in the input.
+#[derive(Clone, Copy, Debug, PartialEq, Eq)]
+pub enum CrossError {
     Memory(Fault),
     GainCount,
     Split,
@@ -25,77 +27,47 @@ pub enum Crossed {
     Sample(usize),
 }
 
-// The call on gains, split and lengths that are judged: what is left is the input.
-fn cross_input(
-    memory: &mut [i32],
-    gains: &[i32],
-    split: i32,
-    input: &[i32],
-    bass: &mut [i32],
-    horn: &mut [i32],
-    bands: usize,
-    channels: usize,
-) -> Crossed
-    requires { Measured bands channels memory.old gains.now split input.now bass.old horn.old }
-    ensures { Done (cross_of memory.old gains.now split input.now bass.old horn.old) result (memory.new, bass.new, horn.new) }
-{
-    if !whole_frames(input.len(), channels) {
-        return Crossed::PartFrame;
+impl From<Fault> for CrossError {
+    ghost from_gives = { λ fault r. r ≡ Memory fault };
+
+    fn from(fault: Fault) -> CrossError {
+        CrossError::Memory(fault)
     }
-    let frames = frames_in(input.len(), channels);
-    if BLOCK_LIMIT < frames {
-        return Crossed::TooLong;
-    }
-    let bad = first_outside(LEAST_SAMPLE, MOST_SAMPLE, input);
-    if bad < input.len() {
-        return Crossed::Sample(bad);
-    }
-    feed_both(
-        memory,
-        gains,
-        split as usize,
-        input,
-        bass,
-        horn,
-        bands,
-        channels,
-    );
-    Crossed::Written(frames)
 }
 
-// The call on an accepted memory of `bands` bands and `channels` channels. All is judged before anything is written.
-fn cross_of(
-    memory: &mut [i32],
-    gains: &[i32],
-    split: i32,
-    input: &[i32],
-    bass: &mut [i32],
-    horn: &mut [i32],
-    bands: usize,
-    channels: usize,
-) -> Crossed
-    requires { KeptCounts bands channels memory.old }
-    ensures { Done (cross_of memory.old gains.now split input.now bass.old horn.old) result (memory.new, bass.new, horn.new) }
-{
-    if gains.len() != bands {
-        return Crossed::GainCount;
+impl From<InputError> for CrossError {
+    ghost from_gives = { λ error r. r ≡ of_input error };
+
+    fn from(error: InputError) -> CrossError {
+        match error {
+            InputError::PartFrame => CrossError::PartFrame,
+            InputError::TooLong => CrossError::TooLong,
+            InputError::Sample(place) => CrossError::Sample(place),
+        }
     }
-    if !within(1, (bands - 1) as i32, split) {
-        return Crossed::Split;
-    }
-    if first_outside(0, LARGEST_GAIN, gains) < gains.len() {
-        return Crossed::Gain;
-    }
-    if bass.len() != input.len() {
-        return Crossed::BassLength;
-    }
-    if horn.len() != input.len() {
-        return Crossed::HornLength;
-    }
-    cross_input(memory, gains, split, input, bass, horn, bands, channels)
 }
 
-// Sends bands 1 to `split` to the bass feed and the others to the horn feed: frame i of either answers input frame i.
+impl Numbered for CrossError {
+    ghost refusal = { cross_refusal };
+
+    fn refused(self) -> Refused {
+        match self {
+            CrossError::Memory(fault) => fault.refused(),
+            CrossError::GainCount => Refused::plain(4),
+            CrossError::Split => Refused::plain(10),
+            CrossError::Gain => Refused::plain(5),
+            CrossError::BassLength | CrossError::HornLength | CrossError::PartFrame =>
+                Refused::plain(6),
+            CrossError::TooLong => Refused::plain(7),
+            CrossError::Sample(place) => Refused { number: 8, place },
+        }
+    }
+
+    ghost has_number = { Prim.search rules };
+}
+
+// Sends bands 1 to `split` to the bass feed and the others to the horn feed: frame i of either answers input frame i. All is judged before
+// anything is written.
 pub fn cross(
     memory: &mut [i32],
     gains: &[i32],
@@ -103,13 +75,26 @@ pub fn cross(
     input: &[i32],
     bass: &mut [i32],
     horn: &mut [i32],
-) -> Crossed
+) -> Result<usize, CrossError>
     ensures { Done (cross_of memory.old gains.now split input.now bass.old horn.old) result (memory.new, bass.new, horn.new) }
 {
-    match judge(memory) {
-        Kept::Holds(bands, channels) => cross_of(
-            memory, gains, split, input, bass, horn, bands, channels,
-        ),
-        Kept::Wrong(fault) => Crossed::Memory(fault),
+    let counts = judge(memory)?;
+    if gains.len() != counts.bands() {
+        return Err(CrossError::GainCount);
     }
+    if !within(1, (gains.len() - 1) as i32, split) {
+        return Err(CrossError::Split);
+    }
+    if first_outside(0, LARGEST_GAIN, gains) < gains.len() {
+        return Err(CrossError::Gain);
+    }
+    if bass.len() != input.len() {
+        return Err(CrossError::BassLength);
+    }
+    if horn.len() != input.len() {
+        return Err(CrossError::HornLength);
+    }
+    let frames = judge_input(input, counts)?;
+    feed_both(memory, gains, split as usize, input, bass, horn, counts);
+    Ok(frames)
 }

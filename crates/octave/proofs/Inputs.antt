@@ -14,6 +14,13 @@ use Rattle.octave.specs.declared.input.InputError.{InputError}
 use Rattle.octave.specs.declared.input.InputError.TheVariants.{PartFrame, TooLong, Sample}
 use Rattle.octave.specs.Input.{input_of}
 
+-- an input that is not refused
+pub record Right (c : ℕ) (input : List ℤ) (frames : ℕ) : Type 0 where
+  pub whole : eqb (length input % c) 0 ≡ true
+  pub short : leb (length input / c) block_limit ≡ true
+  pub samples : all_within least_sample most_sample input ≡ true
+  pub frames_are : frames ≡ length input / c
+
 -- the checks of the input, at the end of a call's own
 module _ {R L : Type 0} (before after : L) (result : R) (of : InputError → R) (c : ℕ) (input : List ℤ) where
   pub input_refused : (e : InputError) → Err e ≡ input_of c input →
@@ -32,12 +39,14 @@ module _ {R L : Type 0} (before after : L) (result : R) (of : InputError → R) 
       by true true false h = let is : e ≡ Sample (first_outside least_sample most_sample input) = cc in record { result_is = ap of is; lent_is = refl }
       by true true true h = absurd cc
 
--- an input that is not refused
-pub record Right (c : ℕ) (input : List ℤ) (frames : ℕ) : Type 0 where
-  pub whole : eqb (length input % c) 0 ≡ true
-  pub short : leb (length input / c) block_limit ≡ true
-  pub samples : all_within least_sample most_sample input ≡ true
-  pub frames_are : frames ≡ length input / c
+  pub input_accepted : {frames : ℕ} → Right c input frames → {r : R} {lent : L} → r ≡ result → lent ≡ after →
+      Done (decide (
+      check (eqb (length input % c) 0) (of PartFrame) ∷
+      check (leb (length input / c) block_limit) (of TooLong) ∷
+      check (all_within least_sample most_sample input) (of (Sample (first_outside least_sample most_sample input))) ∷ [])
+      before result after) r lent
+  unfolding decide
+  input_accepted right d l = rw (right.whole, right.short, right.samples) (record { result_is = d; lent_is = l })
 
 pub input_right : (c : ℕ) (input : List ℤ) (frames : ℕ) → Ok frames ≡ input_of c input → Right c input frames
 unfolding choose

@@ -1,17 +1,12 @@
 -- The lengths of the layout, for 2 to 10 bands. Assumes nothing.
-use mathlib.Core.Path.{◌≡◌}
-use Prim.Native.Nat.{ℕ, ◌-◌, ◌*◌, ◌%◌, ◌^◌, ◌≤◌}
-use native.Mathlib.Nat.{mod-eq_of_lt, mul-le-mul}
+use Prim.Native.Nat.{ℕ, ◌-◌, ◌*◌, ◌≤◌}
+use native.Mathlib.Nat.{mul-le-mul}
 use native.Mathlib.Omega.{arith}
 use lib.Pow.{pow_mono}
 use Rattle.octave.specs.Memory.{line_length, side_places, memory_length}
 
 pub line_small : (M : ℕ) → M ≤ 10 → line_length M ≤ 4608
 line_small M h = omega (arith, pow_mono {i = M - 1} {j = 9} (omega arith))
-
--- the shift loses no bit
-pub shift_exact : (M : ℕ) → M ≤ 10 → 9 * 2 ^ (M - 1) % 2 ^ 64 ≡ line_length M
-shift_exact M h = mod-eq_of_lt (omega (arith, line_small M h))
 
 pub side_small : (M : ℕ) → M ≤ 10 → side_places M ≤ 9 * 4608
 side_small M h = mul-le-mul {n₂ = 9} {m₂ = 4608} (omega arith) (line_small M h)

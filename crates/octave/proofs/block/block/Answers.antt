@@ -16,7 +16,7 @@ use Rattle.octave.specs.Memory.{bands_in, channels_in}
 use Rattle.octave.specs.Input.{input_of}
 use Rattle.octave.specs.Block.{frames_of, equalised, of_input}
 use Rattle.octave.proofs.Memories.{kept_wrong, kept_right}
-use Rattle.octave.proofs.Inputs.{input_refused, input_right}
+use Rattle.octave.proofs.Inputs.{input_refused, input_accepted, input_right}
 use Rattle.octave.proofs.block.block.Goals as goal
 
 bands_are : {m : List ℤ} {k : Counts} {n : ℕ} → KeptCounts k m → n ≡ k.bands → n ≡ bands_in m
@@ -88,5 +88,6 @@ returns c =
     let k = kept_right m c.in_ok-counts.counts c.in_ok-counts.ensures in
     let b = bands_are k c.bands.ensures in
     let right = input_right (channels_in m) input c.in_ok-frames.frames (c.in_ok-frames.ensures ∙ of_counts k input) in
-    let is = ap written right.frames_are in
-    search judging depth 14
+    let rest =
+    input_accepted (m, c.args.output.now) (equalised m c.args.gains.now input) (written (frames_of m input)) (λ e. Err (of_input e)) (channels_in m) input right (ap written right.frames_are) c.equalise.ensures in
+    search (goes_on, branches) depth 12

@@ -1,5 +1,5 @@
 -- Each return has the tests that led there.
-use Rattle.std.proofs.Common.{◌≡◌, ◌∙◌, true, false, ap, ap₂, ℕ, ℤ, List, length, arith, eqb, pos, nat_abs, le-ltb, eq-eqb, to_z-of_z, w32, get_or}
+use Rattle.std.proofs.Common.{◌≡◌, ◌∙◌, true, false, ap, ap₂, ℕ, ℤ, List, length, arith, rules, eqb, pos, nat_abs, le-ltb, eq-eqb, to_z-of_z, w32, get_or}
 use Rattle.std.specs.Prelude.{Result, Ok}
 use Rattle.std.proofs.lemmas.Result.{err_from_is_err_and}
 use lib.Signed.{lt_z}
@@ -31,16 +31,16 @@ returns-then-memory-lt-POSITION c = wrong_is c.args.memory.now CountWrong (too_s
 pub returns-in_err-counts : goal.returns-in_err-counts
 returns-in_err-counts c =
     let m = c.args.memory.now in
-    let b : SFits w32 (get_or m 0 (pos 0)) = sfits_of (omega arith) in
-    let n : SFits w32 (get_or m 1 (pos 0)) = sfits_of (omega arith) in
+    let b : SFits w32 (get_or m 0 (pos 0)) = search rules in
+    let n : SFits w32 (get_or m 1 (pos 0)) = search rules in
     let p = err_from_is_err_and c.from_residual.result c.from_residual.ensures.1 in
     rw (p.1, p.2) (wrong_is m CountWrong (counts_first m _ (c.in_err-counts.ensures ∙ read b n)))
 
 pub returns-then-memory-memory_length : goal.returns-then-memory-memory_length
 returns-then-memory-memory_length c =
     let m = c.args.memory.now in
-    let b : SFits w32 (get_or m 0 (pos 0)) = sfits_of (omega arith) in
-    let n : SFits w32 (get_or m 1 (pos 0)) = sfits_of (omega arith) in
+    let b : SFits w32 (get_or m 0 (pos 0)) = search rules in
+    let n : SFits w32 (get_or m 1 (pos 0)) = search rules in
     let k = counts_are (held_in m).count (held_in m).channels c.in_ok-counts.counts (c.in_ok-counts.ensures ∙ read b n) in
     let l : eqb (length m) (memory_length (bands_in m) (channels_in m)) ≡ false =
     other (length m) (memory_length (bands_in m) (channels_in m)) c.memory_length.result (size m c.memory_length.ensures k) c.if-memory-memory_length.true in
@@ -49,8 +49,8 @@ returns-then-memory-memory_length c =
 pub returns-then-at-lt0 : goal.returns-then-at-lt0
 returns-then-at-lt0 c =
     let m = c.args.memory.now in
-    let b : SFits w32 (get_or m 0 (pos 0)) = sfits_of (omega arith) in
-    let n : SFits w32 (get_or m 1 (pos 0)) = sfits_of (omega arith) in
+    let b : SFits w32 (get_or m 0 (pos 0)) = search rules in
+    let n : SFits w32 (get_or m 1 (pos 0)) = search rules in
     let at : SFits w32 (held_in m).position = sfits_of (omega arith) in
     let k = counts_are (held_in m).count (held_in m).channels c.in_ok-counts.counts (c.in_ok-counts.ensures ∙ read b n) in
     let long : eqb (length m) (memory_length (bands_in m) (channels_in m)) ≡ true =
@@ -61,8 +61,8 @@ returns-then-at-lt0 c =
 pub returns-then-line_length-at : goal.returns-then-line_length-at
 returns-then-line_length-at c =
     let m = c.args.memory.now in
-    let b : SFits w32 (get_or m 0 (pos 0)) = sfits_of (omega arith) in
-    let n : SFits w32 (get_or m 1 (pos 0)) = sfits_of (omega arith) in
+    let b : SFits w32 (get_or m 0 (pos 0)) = search rules in
+    let n : SFits w32 (get_or m 1 (pos 0)) = search rules in
     let at : SFits w32 (held_in m).position = sfits_of (omega arith) in
     let k = counts_are (held_in m).count (held_in m).channels c.in_ok-counts.counts (c.in_ok-counts.ensures ∙ read b n) in
     let long : eqb (length m) (memory_length (bands_in m) (channels_in m)) ≡ true =
@@ -76,8 +76,8 @@ returns-then-line_length-at c =
 pub returns : goal.returns
 returns c =
     let m = c.args.memory.now in
-    let b : SFits w32 (get_or m 0 (pos 0)) = sfits_of (omega arith) in
-    let n : SFits w32 (get_or m 1 (pos 0)) = sfits_of (omega arith) in
+    let b : SFits w32 (get_or m 0 (pos 0)) = search rules in
+    let n : SFits w32 (get_or m 1 (pos 0)) = search rules in
     let at : SFits w32 (held_in m).position = sfits_of (omega arith) in
     let k = counts_are (held_in m).count (held_in m).channels c.in_ok-counts.counts (c.in_ok-counts.ensures ∙ read b n) in
     let not_below : lt_z (held_in m).position (pos 0) ≡ false = rw (to_z-of_z at) at c.if-at-lt0.false in
