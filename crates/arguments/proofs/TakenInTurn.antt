@@ -3,23 +3,22 @@ use mathlib.Core.Path.{◌≡◌, refl, ap, ◌∙◌}
 use mathlib.Core.List.{List, [], ◌∷◌, ◌++◌}
 use Prim.Native.Nat.{ℕ}
 use lib.IntN.{ℤ}
-use Rattle.arguments.specs.declared.taking.Arguments.{Arguments}
-use Rattle.arguments.specs.declared.taking.Arguments.TheVariants.{Taken}
+use Rattle.std.specs.Prelude.{Option, Some}
 use Rattle.arguments.specs.Arguments.{another, all_of}
 use Rattle.arguments.specs.Given.{OneTaken, AllTaken}
 
-pub none_taken : (gains : List ℤ) → AllTaken gains (Taken 0) gains
+pub none_taken : (gains : List ℤ) → AllTaken gains (Some 0) gains
 unfolding all_of
 none_taken gains = record { texts = []; is = refl }
 
-last : (s : Arguments × List ℤ) (texts : List (List ℕ)) (text : List ℕ) → another (all_of s texts).0 text (all_of s texts).1 ≡ all_of s (texts ++ text ∷ [])
+last : (s : Option ℕ × List ℤ) (texts : List (List ℕ)) (text : List ℕ) → another (all_of s texts).0 text (all_of s texts).1 ≡ all_of s (texts ++ text ∷ [])
 unfolding all_of
 last s [] text = refl
 last s (t ∷ texts) text = last (another s.0 t s.1) texts text
 
-pub one_more : (gains g h : List ℤ) (a b : Arguments) → AllTaken gains a g → OneTaken a g b h → AllTaken gains b h
+pub one_more : (gains g h : List ℤ) (a b : Option ℕ) → AllTaken gains a g → OneTaken a g b h → AllTaken gains b h
 one_more gains g h a b t o =
     record {
       texts = t.texts ++ o.text ∷ [];
-      is = o.is ∙ ap (λ (s : Arguments × List ℤ). another s.0 o.text s.1) t.is ∙ last (Taken 0, gains) t.texts o.text;
+      is = o.is ∙ ap (λ (s : Option ℕ × List ℤ). another s.0 o.text s.1) t.is ∙ last (Some 0, gains) t.texts o.text;
     }

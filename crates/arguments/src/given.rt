@@ -2,7 +2,6 @@
 ghost use Rattle.arguments.specs.Given.{OneTaken, AllTaken};
 
 use crate::taking;
-use crate::taking::Arguments;
 use std::env::{Env, FillError};
 
 // Whether the system hands over no argument at that place: they end there.
@@ -13,16 +12,13 @@ fn missing(rt: &impl Env, i: usize) -> bool {
 
 // How many arguments the system hands over, the program's name among them.
 fn arg_count(rt: &impl Env) -> usize {
-    for i in 0..usize::MAX {
-        if missing(rt, i) {
-            return i;
-        }
-    }
-    usize::MAX
+    (0..usize::MAX)
+        .find(|i| missing(rt, *i))
+        .unwrap_or(usize::MAX)
 }
 
 // One argument's bytes. One that is longer than eight bytes is handed on as empty.
-fn another(rt: &impl Env, before: Arguments, i: usize, gains: &mut [i32]) -> Arguments
+fn another(rt: &impl Env, before: Option<usize>, i: usize, gains: &mut [i32]) -> Option<usize>
     ensures { OneTaken before gains.old result gains.new }
 {
     let mut text = [0u8; 8];
@@ -31,15 +27,12 @@ fn another(rt: &impl Env, before: Arguments, i: usize, gains: &mut [i32]) -> Arg
 }
 
 // All arguments, one after the other.
-pub fn take(rt: &impl Env, gains: &mut [i32]) -> Arguments
+pub fn take(rt: &impl Env, gains: &mut [i32]) -> Option<usize>
     ensures { AllTaken gains.old result gains.new }
 {
-    let count = arg_count(rt);
-    let mut taken = Arguments::Taken(0);
-    let mut i = 1;
-    while i < count {
+    let mut taken = Some(0);
+    for i in 1..arg_count(rt) {
         taken = another(rt, taken, i, gains);
-        i += 1;
     }
     taken
 }

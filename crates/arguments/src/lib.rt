@@ -7,5 +7,5 @@ mod half;
 mod taking;
 
 pub use given::take;
-pub use half::{Argument, gain_of};
-pub use taking::{Arguments, BANDS, another, front_wanted};
+pub use half::gain_of;
+pub use taking::{BANDS, another, front_wanted};

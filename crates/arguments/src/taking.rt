@@ -1,45 +1,33 @@
-// The arguments, one after the other, lowest band first.
+// The arguments, one after the other, lowest band first: how many were taken, or none where one is no half decibel or has no
+// place for its gain, which is refused with 30. The count stays beside the gains: the callers hand on the one or the other.
 ghost use Rattle.std.specs.Prelude.{◌≡◌};
 ghost use Rattle.arguments.specs.Arguments.{another, front_wanted};
 
-use crate::half::{Argument, gain_of};
+use crate::half::gain_of;
 use answers::unit::FRONT_LENGTH;
 
 // The program's band count: so many arguments.
 pub const BANDS: usize = 8;
 
-// The arguments so far.
-#[derive(Clone, Copy)]
-pub enum Arguments {
-    // So many were taken.
-    Taken(usize),
-    // 30: one was not a half decibel, or there is no gain for it.
-    Refused,
-}
-
 // Takes one more argument: its gain goes to the next place of the gains.
-pub fn another(before: Arguments, text: &[u8], gains: &mut [i32]) -> Arguments
+pub fn another(before: Option<usize>, text: &[u8], gains: &mut [i32]) -> Option<usize>
     ensures { (result, gains.new) ≡ another before text.now gains.old }
 {
-    let Arguments::Taken(n) = before else {
-        return Arguments::Refused;
-    };
+    let n = before?;
     if gains.len() <= n {
-        return Arguments::Refused;
+        return None;
     }
-    let Argument::Gain(g) = gain_of(text) else {
-        return Arguments::Refused;
-    };
-    gains[n] = g;
-    Arguments::Taken(n + 1)
+    gains[n] = gain_of(text)?;
+    Some(n + 1)
 }
 
 // How many bytes of the front are to be read: none after refused arguments.
-pub fn front_wanted(arguments: Arguments) -> usize
+pub fn front_wanted(arguments: Option<usize>) -> usize
     ensures { result ≡ front_wanted arguments }
 {
-    let Arguments::Taken(n) = arguments else {
-        return 0;
-    };
-    if n == BANDS { FRONT_LENGTH } else { 0 }
+    if arguments == Some(BANDS) {
+        FRONT_LENGTH
+    } else {
+        0
+    }
 }

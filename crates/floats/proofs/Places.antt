@@ -4,7 +4,7 @@ use mathlib.Core.Bool.{Bool, true, false, cond, not}
 use mathlib.Core.List.{List}
 use Prim.Native.Nat.{ℕ, suc, ◌+◌, ◌≤◌, ◌<◌}
 use native.Mathlib.Omega.{arith}
-use borrow.Author.Tests.{ltb-true, ltb-false, le-leb, lt-leb}
+use borrow.Author.Tests.{ltb-true, ltb-false, le-leb, lt-leb, le-ltb}
 use lib.Dec.{ltb}
 use lib.ListN.{length}
 use Rattle.std.specs.Prelude.{Some, None, position}
@@ -41,3 +41,10 @@ module _ {A : Type 0} (test : A → Bool) where
   found_none s e =
       let p = is_place s in
       le-leb (length s) (first_failing test s) (at_none (ltb (first_failing test s) (length s)) (length s) (first_failing test s) refl (rw p e))
+
+  -- where none fails, none is found
+  pub none_there : (s : List A) → length s ≡ first_failing test s → None ≡ position (λ x. not (test x)) s
+  none_there s e =
+      let p = is_place s in
+      let n : ltb (position_or_len (λ x. not (test x)) s) (length s) ≡ false = le-ltb (position_or_len (λ x. not (test x)) s) (length s) (omega arith) in
+      rw n refl

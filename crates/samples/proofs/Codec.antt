@@ -4,10 +4,9 @@ use mathlib.Core.Bool.{true}
 use mathlib.Core.List.{List}
 use Prim.Native.Nat.{ℕ, suc, ◌-◌, ◌*◌, ◌<◌, ◌≤◌}
 use native.Mathlib.Omega.{arith}
-use lib.ListN.{length, take, drop}
+use lib.ListN.{length}
 use lib.Seq.{sets, take_all}
 use lib.IntN.{ℤ, pos, neg_ℤ, ◌*ℤ◌}
-use lib.Ieee.{binary32, of_bits}
 use borrow.Author.Tests.{lt-ltb, le-ltb, eq-eqb, ne_eqb}
 use mir.Syntax.{w32}
 use mir.Val.{SFits, to_z, of_z}
@@ -15,19 +14,17 @@ use mir.Facts.{to_z-of_z}
 use Rattle.answers.specs.Checks.{decide}
 use Rattle.answers.specs.Range.{within, all_within}
 use Rattle.answers.specs.Unit.{least_sample, most_sample}
-use Rattle.fields.specs.Bytes.{lowest, field, row}
+use Rattle.fields.specs.Bytes.{lowest, number_in, field, row}
 use Rattle.fields.proofs.ByTest.{by_order}
 use Rattle.fields.proofs.Rows.{length-row, sets_whole}
-use Rattle.floats.specs.Value.{float_sample}
 use Rattle.floats.specs.Block.{sample_or0}
-use Rattle.samples.specs.Sample.{number_of, code_of, sample_in, from_bytes, to_bytes}
+use Rattle.floats.specs.declared.code.NotNumber.{NotNumber}
+use Rattle.samples.specs.Sample.{number_of, code_of, float_in, sample_in, from_bytes, to_bytes}
 use Rattle.samples.specs.Samples.{bytes_of, block_to}
 use Rattle.samples.specs.Format.{size_of}
 use Rattle.samples.specs.declared.format.Format.{Format}
 use Rattle.samples.specs.declared.format.Format.TheVariants.{Bits16, Bits24, Float32}
-use Rattle.samples.specs.declared.single.Sample.TheVariants as sample
-use Rattle.samples.specs.declared.single.Put.TheVariants as put
-use Rattle.samples.specs.declared.block.Stored.TheVariants as stored
+use Rattle.std.specs.Prelude.{Result, Ok}
 
 -- ---- sixteen bits
 
@@ -48,42 +45,40 @@ high_16 c l h =
 pub times_256 : (c : ℕ) → c < 65536 → number_of 16 c *ℤ pos 256 ≡ number_of 24 (256 * c)
 times_256 c h = by_order c 32768 (λ l. low_16 c l) (λ l. high_16 c l h)
 
--- ---- a sample at a place
+-- ---- the sample of whole bytes, as the code reads them
 
--- the sample that two bytes at a place hold
-pub taken_16 : (s : List ℕ) (at n : ℕ) → n < 65536 → n ≡ field lowest s at 2 → number_of 24 (256 * n) ≡ sample_in Bits16 (take 2 (drop at s))
-unfolding sample_in field
-taken_16 s at n h e = sym (times_256 n h) ∙ ap (λ (m : ℕ). number_of 16 m *ℤ pos 256) e
+-- the field of all bytes is their number
+pub whole_field : (s : List ℕ) (k n : ℕ) → length s ≡ k → n ≡ field lowest s 0 k → n ≡ number_in lowest s
+unfolding field
+whole_field s k n l e = e ∙ ap (number_in lowest) (take_all k s (omega arith))
 
--- the sample that three bytes at a place hold
-pub taken_24 : (s : List ℕ) (at n : ℕ) → n ≡ field lowest s at 3 → number_of 24 n ≡ sample_in Bits24 (take 3 (drop at s))
-unfolding sample_in field
-taken_24 s at n e = ap (number_of 24) e
+pub whole_16 : (s : List ℕ) (n : ℕ) → length s ≡ 2 → n < 65536 → n ≡ field lowest s 0 2 → number_of 24 (256 * n) ≡ sample_in Bits16 s
+unfolding sample_in
+whole_16 s n l h e = sym (times_256 n h) ∙ ap (λ (m : ℕ). number_of 16 m *ℤ pos 256) (whole_field s 2 n l e)
 
--- the sample that four bytes at a place hold
-pub taken_float : (s : List ℕ) (at n : ℕ) → n ≡ field lowest s at 4 → sample_or0 (float_sample (of_bits binary32 n)) ≡ sample_in Float32 (take 4 (drop at s))
-unfolding sample_in field
-taken_float s at n e = ap (λ (m : ℕ). sample_or0 (float_sample (of_bits binary32 m))) e
+pub whole_24 : (s : List ℕ) (n : ℕ) → length s ≡ 3 → n ≡ field lowest s 0 3 → number_of 24 n ≡ sample_in Bits24 s
+unfolding sample_in
+whole_24 s n l e = ap (number_of 24) (whole_field s 3 n l e)
+
+pub whole_float : (s : List ℕ) (r : Result ℤ NotNumber) → r ≡ float_in s → sample_or0 r ≡ sample_in Float32 s
+unfolding sample_in
+whole_float s r e = ap sample_or0 e
 
 -- ---- the calls where they accept
 
-pub from_whole : (format : Format) (s : List ℕ) → size_of format < 4 → length s ≡ size_of format → from_bytes s ≡ sample.Is (sample_in format s)
+pub from_whole : (format : Format) (s : List ℕ) → size_of format < 4 → length s ≡ size_of format → from_bytes s ≡ Ok (sample_in format s)
 unfolding from_bytes
 from_whole Bits16 s few h = rw (eq-eqb (length s) 2 h)
 from_whole Bits24 s few h = rw (ne_eqb (length s) 2 (λ two. omega arith), eq-eqb (length s) 3 h)
 from_whole Float32 s few h = absurd (omega arith)
 
-pub from_at : (format : Format) (s : List ℕ) (z : ℤ) → size_of format < 4 → length s ≡ size_of format → z ≡ sample_in format (take (size_of format) s) → sample.Is z ≡ from_bytes s
-from_at format s z few h e =
-    ap sample.Is (e ∙ ap (sample_in format) (take_all (size_of format) s (omega arith))) ∙ sym (from_whole format s few h)
-
 pub to_three : (z : ℤ) (s : List ℕ) → length s ≡ 3 → within least_sample most_sample z ≡ true →
-    to_bytes z s ≡ record { result = put.Done 3; lent = row lowest 3 (code_of z) }
+    to_bytes z s ≡ record { result = Ok 3; lent = row lowest 3 (code_of z) }
 unfolding to_bytes decide
 to_three z s h range = rw (eq-eqb (length s) 3 h, range)
 
 pub to_all : (samples : List ℤ) (s : List ℕ) → length s ≡ 3 * length samples → all_within least_sample most_sample samples ≡ true →
-    block_to samples s ≡ record { result = stored.Bytes (length s); lent = bytes_of samples }
+    block_to samples s ≡ record { result = Ok (length s); lent = bytes_of samples }
 unfolding block_to decide
 to_all samples s fits range = rw (eq-eqb (length s) (3 * length samples) fits, range)
 

@@ -5,11 +5,10 @@ use mathlib.Core.Bool.{true, false, true≢false}
 use Prim.Native.Nat.{ℕ, suc, ◌-◌, ◌<◌, ◌≤◌}
 use native.Mathlib.Omega.{arith}
 use lib.IntN.{ℤ, pos, negsuc, nat_abs, ◌+ℤ◌, ◌-ℤ◌}
-use lib.Signed.{lt_z, non_neg}
-use lib.Dec.{T}
+use lib.Signed.{lt_z}
 use borrow.Author.Tests.{leb-true, le-leb, ltb-true, ltb-false, lt-ltb, le-ltb}
 use mir.Syntax.{w32}
-use mir.Val.{Fits, SFits, to_z, of_z}
+use mir.Val.{SFits, to_z, of_z}
 use mir.Facts.{to_z-of_z, to_z_pos}
 use Rattle.answers.specs.Range.{within}
 use Rattle.answers.specs.Unit.{least_sample, most_sample}
@@ -74,11 +73,6 @@ module _ (z : ℤ) (fits : SFits w32 z) (range : within least_sample most_sample
   code_positive l = to_z-of_z fits ∙ not_negative z (rw (to_z-of_z fits) at l)
 
   -- a cast of what reads as the code is the code
-  pub cast_code : (v : ℤ) → v ≡ pos (code_of z) → T (non_neg v) × Fits w32 (nat_abs v)
-  cast_code v e =
-      subst (λ (u : ℤ). T (non_neg u) × Fits w32 (nat_abs u)) (sym e)
-      (tt, record { fits = omega (arith, code_below z range) })
-
   pub cast_is : (v : ℤ) → v ≡ pos (code_of z) → (nat_abs v ≡ code_of z) × (nat_abs v < 16777216)
   cast_is v e = subst (λ (u : ℤ). (nat_abs u ≡ code_of z) × (nat_abs u < 16777216)) (sym e) (refl, code_below z range)
 

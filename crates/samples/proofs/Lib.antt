@@ -2,6 +2,7 @@ pub mod Codec
 pub mod Complement
 pub mod InRange
 pub mod Judging
+pub mod Pieces
 pub mod RoundTrips
 pub mod Singles
 pub mod Storing

@@ -19,19 +19,18 @@ use Rattle.samples.specs.Samples.{samples_of, bytes_of}
 use Rattle.samples.specs.Format.{size_of}
 use Rattle.samples.specs.declared.format.Format.{Format}
 use Rattle.samples.specs.declared.format.Format.TheVariants.{Bits16, Bits24, Float32}
-use Rattle.samples.specs.declared.single.Put.TheVariants.{Done}
-use Rattle.samples.specs.declared.single.Sample.TheVariants.{Is}
 use Rattle.samples.proofs.Codec.{from_whole, to_three}
 use Rattle.samples.proofs.Taking.{samples_at}
 use Rattle.samples.proofs.RoundTrips.{number-back, same_bytes}
+use Rattle.std.specs.Prelude.{Ok}
 
 -- sample i of a block is the single call's on the bytes at its place
 pub from_singles : (n : ℕ) (format : Format) (s : List ℕ) (i : ℕ) → size_of format < 4 → i < n → size_of format * n ≤ length s →
-    from_bytes (take (size_of format) (drop (size_of format * i) s)) ≡ Is (get_or (samples_of n format s) i (pos 0))
+    from_bytes (take (size_of format) (drop (size_of format * i) s)) ≡ Ok (get_or (samples_of n format s) i (pos 0))
 from_singles n format s i few h room =
     from_whole format (take (size_of format) (drop (size_of format * i) s)) few
     (length-take-le (size_of format) (drop (size_of format * i) s) (left format n i (length s) h room (length-drop (size_of format * i) s)))
-    ∙ ap Is (sym (samples_at n format s i h))
+    ∙ ap Ok (sym (samples_at n format s i h))
   where
     left : (f : Format) (m j k : ℕ) → j < m → size_of f * m ≤ k → {l : ℕ} → l ≡ k - size_of f * j → size_of f ≤ l
     left Bits16 m j k a b e = omega arith
@@ -52,10 +51,10 @@ bytes_at (z ∷ samples) (suc i) h =
 
 -- the bytes of sample i of a block are the single call's
 pub to_singles : (samples : List ℤ) (buffer : List ℕ) (i : ℕ) → all_within least_sample most_sample samples ≡ true → i < length samples → length buffer ≡ 3 →
-    to_bytes (get_or samples i (pos 0)) buffer ≡ record { result = Done 3; lent = take 3 (drop (3 * i) (bytes_of samples)) }
+    to_bytes (get_or samples i (pos 0)) buffer ≡ record { result = Ok 3; lent = take 3 (drop (3 * i) (bytes_of samples)) }
 to_singles samples buffer i range h three =
     to_three (get_or samples i (pos 0)) buffer three (all_at least_sample most_sample samples range i h)
-    ∙ ap (λ (t : List ℕ). record { result = Done 3; lent = t }) (sym (bytes_at samples i h))
+    ∙ ap (λ (t : List ℕ). record { result = Ok 3; lent = t }) (sym (bytes_at samples i h))
 
 -- a block of samples written and taken again is itself
 pub block_there_and_back : (samples : List ℤ) → all_within least_sample most_sample samples ≡ true → samples_of (length samples) Bits24 (bytes_of samples) ≡ samples

@@ -5,7 +5,7 @@ use Prim.Native.Nat.{ℕ, ◌+◌, ◌-◌, ◌*◌, ◌<◌, ◌≤◌}
 use native.Mathlib.Numerals.{add-one}
 use native.Mathlib.Omega.{arith}
 use lib.ListN.{length, get_or, take, drop, length-append, length-drop, drop_of_length-le}
-use lib.Seq.{take_all, take-suc, drop-drop, sets, sets-eq, length-sets, take_at, drop-append-add, length-take-le}
+use lib.Seq.{take_all, take-suc, drop-drop, sets, sets-eq, take_at, drop-append-add, length-take-le}
 use lib.IntN.{ℤ, pos}
 use Rattle.fields.specs.Bytes.{lowest, row}
 use Rattle.fields.proofs.Rows.{length-row}
@@ -41,40 +41,28 @@ at_seam p q vs at e three l =
     ∙ ap (λ (k : ℕ). (p ++ vs) ++ drop k (p ++ q)) (ap (λ (n : ℕ). at + n) three ∙ ap (λ (n : ℕ). n + 3) (sym e))
     ∙ ap (λ (r : List ℕ). (p ++ vs) ++ r) (drop-append-add p q 3)
 
--- the bytes of i samples are stored, and the buffer from `at` on is as it was
-pub record Storing (s : List ℤ) (old new : List ℕ) (i at : ℕ) : Type 0 where
-  pub below : i ≤ length s
-  pub place : at ≡ 3 * i
-  pub done : new ≡ bytes_of (take i s) ++ drop at old
-  pub long : length new ≡ length old
+-- the bytes of i samples are stored, and the rest of the buffer is as it was
+abbrev pub stored : List ℤ → List ℕ → ℕ → List ℕ
+stored s old i = bytes_of (take i s) ++ drop (3 * i) old
 
-module _ (s : List ℤ) (old : List ℕ) (fits : length old ≡ 3 * length s) where
-  pub storing_start : Storing s old old 0 0
+module _ (s : List ℤ) (old : List ℕ) where
+  pub stored_none : old ≡ stored s old 0
   unfolding bytes_of
-  storing_start = record { below = omega arith; place = refl; done = refl; long = refl }
+  stored_none = refl
 
-  pub storing_turn : (new next : List ℕ) (i at : ℕ) → Storing s old new i at → i < length s →
-      next ≡ sets new at (row lowest 3 (code_of (get_or s i (pos 0)))) → Storing s old next (i + 1) (at + 3)
-  storing_turn new next i at t h e =
+  pub stored_more : (new next : List ℕ) (i : ℕ) → length old ≡ 3 * length s → new ≡ stored s old i → i < length s →
+      next ≡ sets new (3 * i) (row lowest 3 (code_of (get_or s i (pos 0)))) → next ≡ stored s old (i + 1)
+  stored_more new next i fits t h e =
       let vs = row lowest 3 (code_of (get_or s i (pos 0))) in
       let three : length vs ≡ 3 = length-row lowest 3 (code_of (get_or s i (pos 0))) in
-      let lp : length (bytes_of (take i s)) ≡ at = length_bytes (take i s) ∙ ap (λ (k : ℕ). 3 * k) (length-take-le i s t.below) ∙ sym t.place in
-      let lq : length (drop at old) ≡ length old - at = length-drop at old in
-      let place = t.place in
-      let row : next ≡ (bytes_of (take i s) ++ vs) ++ drop 3 (drop at old) =
-      e ∙ ap (λ (r : List ℕ). sets r at vs) t.done ∙ at_seam (bytes_of (take i s)) (drop at old) vs at lp three (omega arith) in
-      record {
-        below = omega arith;
-        place = omega arith;
-        done =
-            row ∙ ap (λ (r : List ℕ). r ++ drop 3 (drop at old)) (sym (bytes_more s i h))
-            ∙ ap (λ (r : List ℕ). bytes_of (take (i + 1) s) ++ r) (drop-drop 3 at old);
-        long = ap length e ∙ length-sets new at vs ∙ t.long;
-      }
+      let lp : length (bytes_of (take i s)) ≡ 3 * i = length_bytes (take i s) ∙ ap (λ (k : ℕ). 3 * k) (length-take-le i s (omega arith)) in
+      let lq : length (drop (3 * i) old) ≡ length old - 3 * i = length-drop (3 * i) old in
+      let more : 3 * i + 3 ≡ 3 * (i + 1) = omega arith in
+      e ∙ ap (λ (r : List ℕ). sets r (3 * i) vs) t ∙ at_seam (bytes_of (take i s)) (drop (3 * i) old) vs (3 * i) lp three (omega arith)
+      ∙ ap (λ (r : List ℕ). r ++ drop 3 (drop (3 * i) old)) (sym (bytes_more s i h))
+      ∙ ap (λ (r : List ℕ). bytes_of (take (i + 1) s) ++ r) (drop-drop 3 (3 * i) old ∙ ap (λ (k : ℕ). drop k old) more)
 
-  pub storing_end : (new : List ℕ) (i at : ℕ) → Storing s old new i at → length s ≤ i → new ≡ bytes_of s
-  storing_end new i at t h =
-      let below = t.below in
-      let place = t.place in
-      t.done ∙ ap (λ (r : List ℤ). bytes_of r ++ drop at old) (take_all i s h)
-      ∙ ap (λ (r : List ℕ). bytes_of s ++ r) (drop_of_length-le old {i = at} (omega arith)) ∙ append-nil (bytes_of s)
+  pub stored_all : (new : List ℕ) (i : ℕ) → length old ≡ 3 * length s → new ≡ stored s old i → length s ≤ i → new ≡ bytes_of s
+  stored_all new i fits t h =
+      t ∙ ap (λ (r : List ℤ). bytes_of r ++ drop (3 * i) old) (take_all i s h)
+      ∙ ap (λ (r : List ℕ). bytes_of s ++ r) (drop_of_length-le old {i = 3 * i} (omega arith)) ∙ append-nil (bytes_of s)

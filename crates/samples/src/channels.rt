@@ -2,18 +2,20 @@
 ghost use Rattle.std.specs.Prelude.{◌≡◌, ◌<◌};
 ghost use Rattle.samples.specs.Channels.{count_of};
 
-#[derive(Clone, Copy)]
+#[derive(Clone, Copy, Debug, PartialEq, Eq)]
 pub enum Channels {
     One,
     Two,
 }
 
-// Their number.
-pub fn channel_count(channels: Channels) -> u32
-    ensures { (result ≡ count_of channels) × (0 < result) × (result < 3) }
-{
-    match channels {
-        Channels::One => 1,
-        Channels::Two => 2,
+impl Channels {
+    // Their number.
+    pub fn count(self) -> u32
+        ensures { (result ≡ count_of self) × (0 < result) × (result < 3) }
+    {
+        match self {
+            Channels::One => 1,
+            Channels::Two => 2,
+        }
     }
 }

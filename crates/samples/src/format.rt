@@ -2,31 +2,29 @@
 ghost use Rattle.std.specs.Prelude.{◌≡◌, ◌<◌};
 ghost use Rattle.samples.specs.Format.{bits_of, size_of};
 
-#[derive(Clone, Copy)]
+#[derive(Clone, Copy, Debug, PartialEq, Eq)]
 pub enum Format {
     Bits16,
     Bits24,
     Float32,
 }
 
-// The bits of one sample.
-pub fn bits(format: Format) -> u32
-    ensures { result ≡ bits_of format }
-{
-    match format {
-        Format::Bits16 => 16,
-        Format::Bits24 => 24,
-        Format::Float32 => 32,
+impl Format {
+    // The bits of one sample.
+    pub fn bits(self) -> u32
+        ensures { result ≡ bits_of self }
+    {
+        match self {
+            Format::Bits16 => 16,
+            Format::Bits24 => 24,
+            Format::Float32 => 32,
+        }
     }
-}
 
-// The bytes of one sample.
-pub fn bytes_each(format: Format) -> u32
-    ensures { (result ≡ size_of format) × (0 < result) × (result < 5) }
-{
-    match format {
-        Format::Bits16 => 2,
-        Format::Bits24 => 3,
-        Format::Float32 => 4,
+    // The bytes of one sample.
+    pub fn bytes(self) -> u32
+        ensures { (result ≡ size_of self) × (0 < result) × (result < 5) }
+    {
+        self.bits() / 8
     }
 }

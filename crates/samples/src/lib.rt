@@ -8,7 +8,7 @@ mod code;
 mod format;
 mod single;
 
-pub use block::{Stored, Taken, bytes_to_samples, samples_to_bytes};
-pub use channels::{Channels, channel_count};
-pub use format::{Format, bits, bytes_each};
-pub use single::{Put, Sample, sample_from_bytes, sample_to_bytes};
+pub use block::{TakeError, bytes_to_samples, samples_to_bytes};
+pub use channels::Channels;
+pub use format::Format;
+pub use single::{StoreError, WrongLength, sample_from_bytes, sample_to_bytes};

@@ -1,10 +1,6 @@
 -- Some arguments were taken in turn.
-use Rattle.std.proofs.Common.{◌-◌}
 use Rattle.arguments.specs.Given.{AllTaken}
 use Rattle.arguments.proofs.given.take.Given as goal
 
 abbrev pub invariant-loop-i : goal.invariant-loop-i
 invariant-loop-i g l = AllTaken l.initial.gains l.taken l.gains
-
-abbrev pub decreases-loop-i : goal.decreases-loop-i
-decreases-loop-i g l = l.count - l.i

@@ -1,18 +1,21 @@
-use Rattle.arguments.specs.declared.digits.Digits.TheVariants.{Value, Not}
-use Rattle.arguments.proofs.ArgumentText.{nothing, minus, plain}
+use Rattle.std.proofs.Common.{◌∙◌, Some, None}
+use Rattle.arguments.proofs.ArgumentText.{minus, plain}
 use Rattle.arguments.proofs.half.place_of.Goals as goal
 
-pub returns-then-text-eq0 : goal.returns-then-text-eq0
-returns-then-text-eq0 c = nothing c.args.text.now c.if-text-eq0.true
+pub returns-in_err-digits_of-in-Some : goal.returns-in_err-digits_of-in-Some
+returns-in_err-digits_of-in-Some c =
+    let m = c.in-Some.ensures.cases in
+    c.from_residual.ensures ∙ minus c.args.text.now None c.in-Some.digits.now m.0 m.1 c.in_err-digits_of-in-Some.ensures
 
-pub returns-in_default : goal.returns-in_default
-returns-in_default c = minus c.args.text.now Not c.if-text-eq45.true c.in_default.ensures
+pub returns-in_ok-digits_of-in-Some : goal.returns-in_ok-digits_of-in-Some
+returns-in_ok-digits_of-in-Some c =
+    let m = c.in-Some.ensures.cases in
+    minus c.args.text.now (Some c.in_ok-digits_of-in-Some.field-0) c.in-Some.digits.now m.0 m.1 c.in_ok-digits_of-in-Some.ensures
 
-pub returns-then-text-eq45 : goal.returns-then-text-eq45
-returns-then-text-eq45 c = minus c.args.text.now (Value c.in-Value.n) c.if-text-eq45.true c.in-Value.ensures
+pub returns-in_err-digits_of-in-None : goal.returns-in_err-digits_of-in-None
+returns-in_err-digits_of-in-None c =
+    c.from_residual-in_err-digits_of-in-None.ensures ∙ plain c.args.text.now None c.in-None.ensures.cases c.in_err-digits_of-in-None.ensures
 
-pub returns-in_default-digits_of : goal.returns-in_default-digits_of
-returns-in_default-digits_of c = plain c.args.text.now Not c.if-text-eq45.false c.in_default-digits_of.ensures
-
-pub returns : goal.returns
-returns c = plain c.args.text.now (Value c.in-Value-digits_of.n) c.if-text-eq45.false c.in-Value-digits_of.ensures
+pub returns-in_ok-digits_of-in-None : goal.returns-in_ok-digits_of-in-None
+returns-in_ok-digits_of-in-None c =
+    plain c.args.text.now (Some c.in_ok-digits_of-in-None.field-0) c.in-None.ensures.cases c.in_ok-digits_of-in-None.ensures

@@ -1,36 +1,25 @@
-use Rattle.std.proofs.Common.{◌≡◌, ◌+◌, sym, ap, ◌∙◌, List, ℕ, ℤ, set, to_z-of_z, w32}
-use Rattle.arguments.specs.declared.taking.Arguments.{Arguments}
-use Rattle.arguments.specs.declared.taking.Arguments.TheVariants.{Taken, Refused}
-use Rattle.arguments.specs.declared.half.Argument.TheVariants as argument
-use Rattle.arguments.specs.Arguments as spec
+use Rattle.std.proofs.Common.{◌+◌, ap, ◌∙◌, ℤ, set, to_z-of_z, w32, Some, None}
 use Rattle.arguments.proofs.ArgumentGain.{argument_small}
 use Rattle.arguments.proofs.NextArgument.{after_refused, no_place, comes_to}
 use Rattle.arguments.proofs.taking.another.Goals as goal
 
--- the arguments so far, taken apart
-from : (text : List ℕ) (gains : List ℤ) (a b : Arguments) → a ≡ b → spec.another b text gains ≡ spec.another a text gains
-from text gains a b e = sym (ap (λ (x : Arguments). spec.another x text gains) e)
-
-pub returns-in_default : goal.returns-in_default
-returns-in_default c =
-    let a = c.args in
-    after_refused a.text.now a.gains.now ∙ from a.text.now a.gains.now a.before Refused c.in_default.is
+pub returns-in_err-n : goal.returns-in_err-n
+returns-in_err-n c = rw (c.from_residual.ensures, c.in_err-n.was) (after_refused c.args.text.now c.args.gains.now)
 
 pub returns-then-gains-n : goal.returns-then-gains-n
-returns-then-gains-n c =
-    let a = c.args in
-    no_place a.text.now a.gains.now c.in-Taken.n c.if-gains-n.true ∙ from a.text.now a.gains.now a.before (Taken c.in-Taken.n) c.in-Taken.is
+returns-then-gains-n c = rw c.in_ok-n.was (no_place c.args.text.now c.args.gains.now c.in_ok-n.n c.if-gains-n.true)
 
-pub returns-in_default-gain_of : goal.returns-in_default-gain_of
-returns-in_default-gain_of c =
-    let a = c.args in
-    comes_to a.text.now a.gains.now c.in-Taken.n argument.Refused c.if-gains-n.false c.in_default-gain_of.ensures
-    ∙ from a.text.now a.gains.now a.before (Taken c.in-Taken.n) c.in-Taken.is
+pub returns-in_err-gains : goal.returns-in_err-gains
+returns-in_err-gains c =
+    rw (c.from_residual-in_err-gains.ensures, c.in_ok-n.was)
+    (comes_to c.args.text.now c.args.gains.now c.in_ok-n.n None c.if-gains-n.false c.in_err-gains.ensures)
 
 pub returns : goal.returns
 returns c =
-    let a = c.args in
-    let small = argument_small a.text.now c.in-Gain.g c.in-Gain.ensures in
-    ap (λ (g : ℤ). (Taken (c.in-Taken.n + 1), set a.gains.now c.in-Taken.n g)) (to_z-of_z {w = w32} (record { sfits = small }))
-    ∙ comes_to a.text.now a.gains.now c.in-Taken.n (argument.Gain c.in-Gain.g) c.if-gains-n.false c.in-Gain.ensures
-    ∙ from a.text.now a.gains.now a.before (Taken c.in-Taken.n) c.in-Taken.is
+    let gains = c.args.gains.now in
+    let n = c.in_ok-n.n in
+    let g = c.in_ok-gains.field-0 in
+    let small = argument_small c.args.text.now g c.in_ok-gains.ensures in
+    rw c.in_ok-n.was
+    (ap (λ (z : ℤ). (Some (n + 1), set gains n z)) (to_z-of_z {w = w32} (record { sfits = small }))
+    ∙ comes_to c.args.text.now gains n (Some g) c.if-gains-n.false c.in_ok-gains.ensures)

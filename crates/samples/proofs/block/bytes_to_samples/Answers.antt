@@ -1,9 +1,12 @@
-use Rattle.std.proofs.Common.{◌≡◌, ap, true, length}
+-- The checks in turn, then all samples.
+use Rattle.std.proofs.Common.{◌≡◌, ◌/◌, ◌∙◌, ap, sym, length}
 use Rattle.answers.proofs.Laws.{refuses_last, goes_on}
-use Rattle.answers.proofs.Branches.{branches, judging, found_none}
+use Rattle.answers.proofs.Branches.{branches, judging}
 use Rattle.fields.proofs.ByTest.{dividing}
-use Rattle.samples.specs.Samples.{first_bad, all_samples, block_from}
-use Rattle.samples.specs.declared.block.Taken.TheVariants.{NotNumber}
+use Rattle.samples.specs.Format.{size_of}
+use Rattle.samples.specs.Samples.{block_from}
+use Rattle.samples.specs.declared.block.TakeError.TheVariants.{NotNumber}
+use Rattle.samples.proofs.Judging.{bad_there, none_bad}
 use Rattle.samples.proofs.Taking.{all_taken}
 use Rattle.samples.proofs.block.bytes_to_samples.Goals as goal
 
@@ -15,16 +18,19 @@ pub returns-then-samples-bytes : goal.returns-then-samples-bytes
 unfolding block_from
 returns-then-samples-bytes c = search (judging, dividing) depth 12
 
-pub returns-then-bad-samples : goal.returns-then-bad-samples
+pub returns-in-Some : goal.returns-in-Some
 unfolding block_from
-returns-then-bad-samples c =
-    let is = ap NotNumber c.first_bad-bad.ensures in
+returns-in-Some c =
+    let a = c.args in
+    let count : length a.samples.now ≡ length a.bytes.now / size_of a.format = c.if-samples-bytes.false ∙ ap (λ k. length a.bytes.now / k) c.bytes-size.ensures.0 in
+    let bad = bad_there a.format a.bytes.now (length a.samples.now) _ count c.in-Some.place (sym c.first_bad.ensures ∙ c.in-Some.is) in
+    let is = ap NotNumber bad.1 in
+    let not_all = bad.0 in
     search (refuses_last, goes_on, branches, dividing) depth 12
 
 pub returns : goal.returns
 returns c =
     let a = c.args in
-    let good : all_samples (length a.samples.now) a.format a.bytes.now ≡ true =
-    found_none (length a.samples.now) (first_bad (length a.samples.now) a.format a.bytes.now) c.first_bad-bad.result c.first_bad-bad.ensures c.if-bad-samples.false in
-    all_taken a.bytes.now a.format a.samples.now c.take_all.new.samples c.bytes_each-size.result c.bytes_each-size.ensures.0 c.if-bytes-size-ne0.false
-    c.if-samples-bytes.false good c.take_all.auto.samples c.take_all.ensures
+    let count : length a.samples.now ≡ length a.bytes.now / size_of a.format = c.if-samples-bytes.false ∙ ap (λ k. length a.bytes.now / k) c.bytes-size.ensures.0 in
+    all_taken a.bytes.now a.format a.samples.now c.take_all.new.samples c.bytes-size.result c.bytes-size.ensures.0 c.if-bytes-size-ne0.false
+    c.if-samples-bytes.false (none_bad a.format a.bytes.now (length a.samples.now) _ count (sym c.first_bad.ensures ∙ c.in_default.is)) c.take_all.auto.samples c.take_all.ensures

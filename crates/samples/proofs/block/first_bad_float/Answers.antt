@@ -1,19 +1,13 @@
-use Rattle.std.proofs.Common.{refl, ◌*◌}
-use Rattle.samples.proofs.Judging.{searched_none, stops, goes_on, ends}
+-- The closure's answers over the pieces of four bytes.
+use Rattle.std.proofs.Common.{not, rules, tests, lit<}
+use Rattle.std.proofs.lemmas.Iterator.Search.{position_from_yields_List}
+use Rattle.samples.specs.Sample.{is_sample_in}
+use Rattle.samples.specs.declared.format.Format.TheVariants.{Float32}
+use Rattle.samples.proofs.Pieces.{pieces}
 use Rattle.samples.proofs.block.first_bad_float.Goals as goal
 
-pub loop-i-init : goal.loop-i-init
-loop-i-init c = searched_none c.args.count c.args.bytes.now
-
-pub returns-then-not-is_sample : goal.returns-then-not-is_sample
-returns-then-not-is_sample c =
-    stops c.args.count c.args.bytes.now c.loop-i.i c.loop-i.invariant (4 * c.loop-i.i) c.four.result c.is_sample.result c.sample_of_code.result
-    c.loop-i-test.true refl c.four.ensures c.sample_of_code.ensures c.is_sample.ensures c.if-not-is_sample.true
-
-pub loop-i-preserved : goal.loop-i-preserved
-loop-i-preserved c =
-    goes_on c.args.count c.args.bytes.now c.loop-i.i c.loop-i.invariant (4 * c.loop-i.i) c.four.result c.is_sample.result c.sample_of_code.result
-    c.loop-i-test.true refl c.four.ensures c.sample_of_code.ensures c.is_sample.ensures c.if-not-is_sample.false
-
 pub returns : goal.returns
-returns c = ends c.args.count c.args.bytes.now c.loop-i.i c.loop-i.invariant c.loop-i-test.false
+unfolding is_sample_in
+returns c =
+    position_from_yields_List (λ s. not (is_sample_in Float32 s)) _ _ _ c.position.ensures.ran
+    (pieces 4 c.args.bytes.now (lit< tt) c.chunks_exact.ensures.size c.chunks_exact.ensures.rest) (λ x b q k. search (rules, tests))

@@ -1,10 +1,7 @@
--- i samples are taken, and `at` is the place of the next.
-use Rattle.std.proofs.Common.{length, ◌-◌}
-use Rattle.samples.proofs.Taking.{Taking}
+-- The samples of the pieces so far are taken.
+use Rattle.std.proofs.Common.{◌≡◌, length, take}
+use Rattle.samples.specs.Samples.{samples_of}
 use Rattle.samples.proofs.block.take_all.Given as goal
 
 abbrev pub invariant-loop-i : goal.invariant-loop-i
-invariant-loop-i l = Taking l.format l.bytes l.initial.samples l.samples l.i l.at
-
-abbrev pub decreases-loop-i : goal.decreases-loop-i
-decreases-loop-i l = length l.initial.samples - l.i
+invariant-loop-i l = take (length l.yielded) l.samples ≡ take (length l.yielded) (samples_of (length l.samples) l.format l.bytes)
