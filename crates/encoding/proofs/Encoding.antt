@@ -13,8 +13,8 @@ use Rattle.std.proofs.Common.{Result, Ok, Err}
 use Rattle.answers.specs.Answer.{Answer, accepted, refused, answered}
 use Rattle.answers.specs.Checks.{Outcome, Done}
 use Rattle.answers.specs.declared.refused.Refused.{Refused}
-use Rattle.encoding.specs.Answers.{of_count}
-use Rattle.encoding.specs.Encode.{least, Apart}
+use Rattle.encoding.specs.Answers.{of_count, Returned}
+use Rattle.encoding.specs.Encode.{least, encode, Apart}
 use Rattle.encoding.specs.Parts.{PlaceFits, CountFits, Returnable, Counted}
 
 -- ---- 64 bits
@@ -59,9 +59,14 @@ module _ {E : Type 0} (refusal : E → Refused) (r : Result ℕ E) {a : Answer �
       by (Err e) h = h.2
 
 -- a count of a call that was lent places
-pub lent_fits : {E L : Type 0} (refusal : E → Refused) {o : Outcome (Result ℕ E) L} {r : Result ℕ E} {lent : L} → Done o r lent →
-    Counted (answered refusal o.result) → CountFits refusal r
-lent_fits refusal d h = count_fits refusal _ (ap (answered refusal) d.result_is) h
+module _ {E L : Type 0} (refusal : E → Refused) {o : Outcome (Result ℕ E) L} {r : Result ℕ E} {lent : L} (d : Done o r lent) where
+  pub lent_fits : Counted (answered refusal o.result) → CountFits refusal r
+  lent_fits h = count_fits refusal r (ap (answered refusal) d.result_is) h
+
+  -- .. and is what that call's export returns
+  pub lent_returned : {code : ℤ} → code ≡ encode (of_count (answered refusal r)) → mag code < 2 ^ 63 →
+      Returned (λ (a : Result ℕ E). of_count (answered refusal a)) o (to_z w64 (of_z w64 code)) lent
+  lent_returned e fits = record { code_is = returned (rw (d.result_is) at e) fits; lent_is = d.lent_is }
 
 -- ---- what can be returned is kept apart
 
