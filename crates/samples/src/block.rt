@@ -15,7 +15,7 @@ use crate::single::{StoreError, float_in, sample_in};
 use answers::range::first_outside;
 use answers::refused::{Numbered, Refused};
 use answers::unit::{LEAST_SAMPLE, MOST_SAMPLE};
-use fields::lowest::put_three;
+use fields::number::{Lowest, put_number};
 
 // Why `bytes_to_samples` refuses.
 #[derive(Clone, Copy, Debug, PartialEq, Eq)]
@@ -97,7 +97,7 @@ fn store_all(samples: &[i32], buffer: &mut [u8])
     ensures { buffer.new ≡ bytes_of samples.now }
 {
     for (i, sample) in samples.iter().enumerate() {
-        put_three(buffer, 3 * i, code_of(*sample));
+        put_number::<Lowest, 3>(buffer, 3 * i, code_of(*sample));
     }
 }
 

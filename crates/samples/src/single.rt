@@ -10,7 +10,7 @@ use crate::format::Format;
 use answers::range::within;
 use answers::refused::{Numbered, Refused};
 use answers::unit::{LEAST_SAMPLE, MOST_SAMPLE};
-use fields::lowest::{four, put_three, three, two};
+use fields::number::{Lowest, number_at, put_number};
 use floats::{NotNumber, sample_of_code};
 
 // 18: not two or three bytes.
@@ -54,7 +54,7 @@ pub(crate) fn float_in(bytes: &[u8]) -> Result<i32, NotNumber>
     requires { length bytes.now ≡ 4 }
     ensures { result ≡ float_in bytes.now }
 {
-    sample_of_code(four(bytes, 0))
+    sample_of_code(number_at::<Lowest, 4>(bytes, 0))
 }
 
 // The sample in the bytes of a format.
@@ -63,8 +63,8 @@ pub(crate) fn sample_in(bytes: &[u8], format: Format) -> i32
     ensures { result ≡ sample_in format bytes.now }
 {
     match format {
-        Format::Bits16 => number(256 * two(bytes, 0)),
-        Format::Bits24 => number(three(bytes, 0)),
+        Format::Bits16 => number(256 * number_at::<Lowest, 2>(bytes, 0)),
+        Format::Bits24 => number(number_at::<Lowest, 3>(bytes, 0)),
         Format::Float32 => float_in(bytes).unwrap_or(0),
     }
 }
@@ -90,6 +90,6 @@ pub fn sample_to_bytes(sample: i32, buffer: &mut [u8]) -> Result<usize, StoreErr
     if !within(LEAST_SAMPLE, MOST_SAMPLE, sample) {
         return Err(StoreError::OutOfRange);
     }
-    put_three(buffer, 0, code_of(sample));
+    put_number::<Lowest, 3>(buffer, 0, code_of(sample));
     Ok(3)
 }

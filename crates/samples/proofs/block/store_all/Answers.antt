@@ -26,8 +26,8 @@ loop-i-preserved c =
     let z = get_or c.args.samples.now c.loop-i.i (pos 0) in
     let range : within least_sample most_sample z ≡ true = all_at least_sample most_sample c.args.samples.now c.requires.1 c.loop-i.i c.loop-i-test.true in
     let plain = to_z-of_z {w = w32} {z = z} (sample_fits z range) in
-    stored_more c.args.samples.now c.args.buffer.now c.loop-i.buffer c.put_three.new.buffer c.loop-i.i c.requires.0 c.loop-i.invariant c.loop-i-test.true
-    (c.put_three.ensures ∙ ap (λ (k : ℕ). sets c.loop-i.buffer (3 * c.loop-i.i) (row lowest 3 k)) (c.code_of.ensures.0 ∙ ap code_of plain))
+    stored_more c.args.samples.now c.args.buffer.now c.loop-i.buffer c.put_number.new.buffer c.loop-i.i c.requires.0 c.loop-i.invariant c.loop-i-test.true
+    (c.put_number.ensures ∙ ap (λ (k : ℕ). sets c.loop-i.buffer (3 * c.loop-i.i) (row lowest 3 k)) (c.code_of.ensures.0 ∙ ap code_of plain))
 
 pub returns : goal.returns
 returns c = stored_all c.args.samples.now c.args.buffer.now c.loop-i.buffer c.loop-i.i c.requires.0 c.loop-i.invariant c.loop-i-test.false

@@ -9,13 +9,13 @@ use Rattle.samples.proofs.single.sample_in.Goals as goal
 pub returns-in-Bits16 : goal.returns-in-Bits16
 returns-in-Bits16 c =
     to_z-of_z {w = w32} (record { sfits = c.number.type_inv }) ∙ c.number.ensures
-    ∙ whole_16 c.args.bytes.now c.two.result (rw c.in-Bits16.is at c.requires) c.two.ensures.1 c.two.ensures.0
+    ∙ whole_16 c.args.bytes.now c.number_at.result (rw c.in-Bits16.is at c.requires) c.number_at.ensures.1 c.number_at.ensures.0
     ∙ sym (ap (λ f. sample_in f c.args.bytes.now) c.in-Bits16.is)
 
 pub returns-in-Bits24 : goal.returns-in-Bits24
 returns-in-Bits24 c =
     to_z-of_z {w = w32} (record { sfits = c.number-in-Bits24.type_inv }) ∙ c.number-in-Bits24.ensures
-    ∙ whole_24 c.args.bytes.now c.three.result (rw c.in-Bits24.is at c.requires) c.three.ensures.0
+    ∙ whole_24 c.args.bytes.now c.number_at-in-Bits24.result (rw c.in-Bits24.is at c.requires) c.number_at-in-Bits24.ensures.0
     ∙ sym (ap (λ f. sample_in f c.args.bytes.now) c.in-Bits24.is)
 
 pub returns-in-Float32 : goal.returns-in-Float32
