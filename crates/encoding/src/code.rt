@@ -26,7 +26,7 @@ pub fn count<E: Numbered>(answer: Result<usize, E>) -> i64
     }
 }
 
-// .. and one with a sign: a sample, a gain.
+// .. and one with a sign: a sample, a gain. Apart from `count`, since one form for both would take how a value is widened.
 pub fn signed<E: Numbered>(answer: Result<i32, E>) -> i64
     requires { PlaceFits E.refusal answer }
     ensures { result ≡ encode (answered E.refusal answer) }

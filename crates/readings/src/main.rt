@@ -26,7 +26,12 @@ fn one(rt: &impl Print, cases: &mut impl Read, lists: &mut Lists) -> io::Result<
 }
 
 fn main(rt: HostRuntime) -> io::Result<()> {
-    let mut lists = Lists::empty();
+    let mut lists = Lists {
+        memory: [0; 92163],
+        gains: [0; 10],
+        input: [0; 8194],
+        output: [0; 8194],
+    };
     let mut cases = rt.stdin();
     for _ in 0..word(&mut cases) {
         one(&rt, &mut cases, &mut lists)?;
