@@ -13,17 +13,14 @@ use Rattle.samples.specs.Channels.{count_of}
 use Rattle.samples.specs.declared.channels.Channels.{Channels}
 use Rattle.samples.specs.declared.format.Format.{Format}
 use Rattle.wave.specs.Names.{fmt, data'}
+use Rattle.std.specs.Prelude.{Option, Some, None}
 use Rattle.wave_values.specs.Values.{known_length, frame_size, coding_of, channels_of, known_rate, right}
-use Rattle.wave.specs.Walk.{Found, Seen, nothing, sound, first, judged, extra_in, values, fmt_chunk, data_chunk, chunk}
-use Rattle.wave_values.specs.declared.Coding.{Coding}
-use Rattle.wave_values.specs.declared.Coding.TheVariants.{Known, Unknown}
-use Rattle.wave_values.specs.declared.Sides.{Sides}
-use Rattle.wave_values.specs.declared.Sides.TheVariants.{OneOrTwo, OtherCount}
+use Rattle.wave.specs.Walk.{Found, Seen, first, judged, extra_in, values, fmt_chunk, data_chunk, chunk}
 
 -- a `fmt ` that was met has a known rate
 abbrev pub Good : Seen → Type 0
-Good nothing = Unit
-Good (sound rate format channels) = known_rate rate ≡ true
+Good None = Unit
+Good (Some s) = known_rate s.rate ≡ true
 
 -- the samples that a `data` chunk at a place starts
 abbrev pub found_at : ℕ → Format → Channels → List ℕ → ℕ → Found
@@ -43,25 +40,25 @@ right_rate format channels rate byteRate block h =
     and_left (known_rate rate) (eqb block size && eqb byteRate (rate * size)) h
 
 module _ (rest : List ℕ) (at : ℕ) (seen : Seen) where
-  judged_says : (coding : Coding) (sides : Sides) (rate byteRate block : ℕ) → Says rest at seen (judged coding sides rate byteRate block)
+  judged_says : (coding : Option Format) (sides : Option Channels) (rate byteRate block : ℕ) → Says rest at seen (judged coding sides rate byteRate block)
   unfolding judged
-  judged_says (Known format) (OneOrTwo channels) rate byteRate block =
+  judged_says (Some format) (Some channels) rate byteRate block =
       cond-case (Says rest at seen) _ _ (right format channels rate byteRate block)
       (λ h. goes (λ _. right_rate format channels rate byteRate block h)) (λ _. refuses (lit≤ tt) (lit≤ tt))
-  judged_says (Known format) OtherCount rate byteRate block = refuses (lit≤ tt) (lit≤ tt)
-  judged_says Unknown sides rate byteRate block = refuses (lit≤ tt) (lit≤ tt)
+  judged_says (Some format) None rate byteRate block = refuses (lit≤ tt) (lit≤ tt)
+  judged_says None sides rate byteRate block = refuses (lit≤ tt) (lit≤ tt)
 
   first_says : (before : Seen) → Says rest at seen (first before (values rest))
   unfolding first values
-  first_says nothing =
+  first_says None =
       judged_says (coding_of (size_in lowest rest) (extra_in rest) (field lowest rest 8 2) (field lowest rest 22 2)) (channels_of (field lowest rest 10 2))
       (field lowest rest 12 4) (field lowest rest 16 4) (field lowest rest 20 2)
-  first_says (sound rate format channels) = refuses (lit≤ tt) (lit≤ tt)
+  first_says (Some before) = refuses (lit≤ tt) (lit≤ tt)
 
 data_says : (rest : List ℕ) (at : ℕ) (seen : Seen) → named rest data' ≡ true → Says rest at seen (ends (data_chunk (size_in lowest rest) at seen))
 unfolding data_chunk
-data_says rest at nothing h = refuses (lit≤ tt) (lit≤ tt)
-data_says rest at (sound rate format channels) h = lands h (λ good. good)
+data_says rest at None h = refuses (lit≤ tt) (lit≤ tt)
+data_says rest at (Some s) h = lands h (λ good. good)
 
 pub chunk_says : (rest : List ℕ) (at : ℕ) (seen : Seen) → Says rest at seen (chunk rest at seen)
 unfolding chunk fmt_chunk

@@ -1,7 +1,8 @@
 -- The header reader: what each chunk of the front comes to, and the checks around the walk.
-use Rattle.std.specs.Prelude.{ℕ, ◌+◌, ◌%◌, ◌&&◌, cond, List, length, take, drop, eqb, leb}
-use Rattle.answers.specs.Answer.{Answer, accepted, refused}
+use Rattle.std.specs.Prelude.{ℕ, ◌+◌, ◌%◌, ◌&&◌, cond, List, length, take, drop, eqb, leb, Option, Some, None, Result}
+use Rattle.answers.specs.Answer.{Answer, accepted, refused, plain, answered}
 use Rattle.answers.specs.Unit.{front_length}
+use Rattle.answers.specs.declared.refused.Refused.{Refused}
 use Rattle.fields.specs.Bytes.{lowest, field, same}
 use Rattle.chunks.specs.Walk.{header_length, size_in, named, contained, Step, ends, on, walk}
 use Rattle.samples.specs.Channels.{count_of}
@@ -9,41 +10,34 @@ use Rattle.samples.specs.declared.channels.Channels.{Channels}
 use Rattle.samples.specs.declared.format.Format.{Format}
 use Rattle.wave.specs.Names.{riff, wave, fmt, data'}
 use Rattle.wave_values.specs.Values.{long_fmt_length, known_length, frame_size, coding_of, channels_of, right}
-use Rattle.wave_values.specs.declared.Coding.{Coding}
-use Rattle.wave_values.specs.declared.Coding.TheVariants.{Known, Unknown}
-use Rattle.wave_values.specs.declared.Sides.{Sides}
-use Rattle.wave_values.specs.declared.Sides.TheVariants.{OneOrTwo, OtherCount}
-use Rattle.wave.specs.declared.finder.Finding.{Finding}
-use Rattle.wave.specs.declared.finder.Finding.TheVariants as finding
-use Rattle.wave.specs.declared.reader.Reading.{Reading}
-use Rattle.wave.specs.declared.reader.Reading.TheVariants as reading
+use Rattle.wave.specs.declared.found.Sound.{Sound}
+pub use Rattle.wave.specs.declared.found.Found.{Found}
 use Rattle.wave.specs.declared.refusal.Refusal.{Refusal}
 use Rattle.wave.specs.declared.refusal.Refusal.TheVariants.{NotWave, NoFormat, WrongFormat, CutOff, PartFrame}
 
--- rule 8.12: what is found: `size` is the length of `data` in bytes, and its contents start at `start`
-pub record Found : Type 0 where
-  pub rate : ℕ
-  pub format : Format
-  pub channels : Channels
-  pub size : ℕ
-  pub start : ℕ
-
 -- rule 8.6: the `fmt ` before a chunk: none, or its rate, format and channels
-pub data Seen : Type 0 where
-  nothing : Seen
-  sound : ℕ → Format → Channels → Seen
+abbrev pub Seen : Type 0
+Seen = Option Sound
+
+-- rule 8.6: no `fmt ` is met
+abbrev pub nothing : Seen
+nothing = None
+
+-- rule 8.6: one is met
+abbrev pub sound : ℕ → Format → Channels → Seen
+sound rate format channels = Some (record { rate = rate; format = format; channels = channels })
 
 -- rule 8.6: a second `fmt ` is 23
 unfoldable pub first : Seen → Step Seen (Answer Found) → Step Seen (Answer Found)
-first nothing step = step
-first (sound rate format channels) step = ends (refused 23 0)
+first None step = step
+first (Some before) step = ends (refused 23 0)
 
 -- rule 8.8: the values beside the format and the channels are judged with these
-unfoldable pub judged : Coding → Sides → (rate byteRate block : ℕ) → Step Seen (Answer Found)
-judged (Known format) (OneOrTwo channels) rate byteRate block =
+unfoldable pub judged : Option Format → Option Channels → (rate byteRate block : ℕ) → Step Seen (Answer Found)
+judged (Some format) (Some channels) rate byteRate block =
     cond (right format channels rate byteRate block) (on (sound rate format channels)) (ends (refused 23 0))
-judged (Known format) OtherCount rate byteRate block = ends (refused 23 0)
-judged Unknown sides rate byteRate block = ends (refused 23 0)
+judged (Some format) None rate byteRate block = ends (refused 23 0)
+judged None sides rate byteRate block = ends (refused 23 0)
 
 -- rule 8.7: the two bytes of a `fmt ` of 18 behind the sixteen; 0 where there are none
 unfoldable pub extra_in : List ℕ → ℕ
@@ -64,9 +58,9 @@ fmt_chunk rest seen =
 
 -- rule 8.10: a `data` chunk at a place ends the walk
 unfoldable pub data_chunk : (size at : ℕ) → Seen → Answer Found
-data_chunk size at nothing = refused 22 0
-data_chunk size at (sound rate format channels) =
-    accepted (record { rate = rate; format = format; channels = channels; size = size; start = at + header_length })
+data_chunk size at None = refused 22 0
+data_chunk size at (Some s) =
+    accepted (record { rate = s.rate; format = s.format; channels = s.channels; size = size; start = at + header_length })
 
 -- rules 8.6, 8.10, 8.11: any chunk whose header is in the front
 unfoldable pub chunk : List ℕ → ℕ → Seen → Step Seen (Answer Found)
@@ -96,21 +90,13 @@ unfoldable pub read_of : List ℕ → Answer Found
 read_of lent = whole_frames (find_of lent)
 
 -- rule 6.8: the number of a refusal
-abbrev pub number_of : Refusal → ℕ
-number_of NotWave = 21
-number_of NoFormat = 22
-number_of WrongFormat = 23
-number_of CutOff = 24
-number_of PartFrame = 25
+abbrev pub refusal_of : Refusal → Refused
+refusal_of NotWave = plain 21
+refusal_of NoFormat = plain 22
+refusal_of WrongFormat = plain 23
+refusal_of CutOff = plain 24
+refusal_of PartFrame = plain 25
 
--- rule 6.8: numbers and values for `Finding`
-abbrev pub find_answer : Finding → Answer Found
-find_answer (finding.Data rate format channels size start) =
-    accepted (record { rate = rate; format = format; channels = channels; size = size; start = start })
-find_answer (finding.Refused r) = refused (number_of r) 0
-
--- rule 6.8: numbers and values for `Reading`
-abbrev pub read_answer : Reading → Answer Found
-read_answer (reading.Accepted rate format channels size start) =
-    accepted (record { rate = rate; format = format; channels = channels; size = size; start = start })
-read_answer (reading.Refused r) = refused (number_of r) 0
+-- rule 6.8: numbers and values of `find` and `read`
+abbrev pub found_answer : Result Found Refusal → Answer Found
+found_answer r = answered refusal_of r

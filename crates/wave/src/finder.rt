@@ -3,59 +3,42 @@ ghost use Rattle.std.specs.Prelude.{◌≡◌, length};
 ghost use Rattle.answers.specs.Answer.{refused};
 ghost use Rattle.fields.specs.Bytes.{lowest};
 ghost use Rattle.chunks.specs.Walk.{form_length, walk};
-ghost use Rattle.wave.specs.Walk.{nothing, chunk, find, find_of, find_answer};
+ghost use Rattle.wave.specs.Walk.{nothing, chunk, find_of, found_answer};
 
-use crate::chunk::{Seen, Step, chunk};
+use crate::chunk::{data_chunk, format_chunk};
+use crate::found::Found;
 use crate::refusal::Refusal;
 use answers::unit::FRONT_LENGTH;
 use chunks::form::{FORM_LENGTH, is_form};
-use chunks::lowest::next_after;
+use chunks::lowest::{next_after, size_in};
 use chunks::place::header_in;
-use samples::{Channels, Format};
-use whole::counts::least;
+use fields::names::named;
 
-// What `find` answers.
-#[derive(Clone, Copy)]
-pub enum Finding {
-    // `size` bytes of samples start at `start`.
-    Data {
-        rate: u32,
-        format: Format,
-        channels: Channels,
-        size: u32,
-        start: usize,
-    },
-    // 21 to 24.
-    Refused(Refusal),
-}
-
-fn walk(front: &[u8]) -> Finding
-    ensures { find_answer result ≡ walk lowest (refused 24 0) chunk (length front.now) front.now form_length nothing }
+// A `while`, and no iterator: each chunk states where the next one starts.
+fn walk(front: &[u8]) -> Result<Found, Refusal>
+    ensures { found_answer result ≡ walk lowest (refused 24 0) chunk (length front.now) front.now form_length nothing }
 {
     let mut at = FORM_LENGTH;
-    let mut seen = Seen::Nothing;
+    let mut seen = None;
     while header_in(front, at) {
-        match chunk(&front[at..], at, seen) {
-            Step::Ends(finding) => {
-                return finding;
-            }
-            Step::On(met) => {
-                seen = met;
-                at = next_after(front, at);
-            }
+        let rest = &front[at..];
+        if named(rest, 0, b"fmt ") {
+            seen = Some(format_chunk(rest, seen)?);
+        } else if named(rest, 0, b"data") {
+            return data_chunk(size_in(rest), at, seen);
         }
+        at = next_after(front, at);
     }
-    Finding::Refused(Refusal::CutOff)
+    Err(Refusal::CutOff)
 }
 
 // Finds the samples of a file by its front: the first 4,096 bytes, or the whole file if shorter.
-pub fn find(front: &[u8]) -> Finding
-    ensures { find_answer result ≡ find_of front.now }
+pub fn find(front: &[u8]) -> Result<Found, Refusal>
+    ensures { found_answer result ≡ find_of front.now }
 {
-    let n = least(front.len(), FRONT_LENGTH);
-    let part = &front[..n];
-    if is_form(part, b"RIFF", b"WAVE") {
-        return walk(part);
+    let part = &front[..front.len().min(FRONT_LENGTH)];
+    if !is_form(part, b"RIFF", b"WAVE") {
+        return Err(Refusal::NotWave);
     }
-    Finding::Refused(Refusal::NotWave)
+    walk(part)
 }

@@ -4,9 +4,11 @@
 
 mod chunk;
 mod finder;
+mod found;
 mod reader;
 mod refusal;
 
-pub use finder::{Finding, find};
-pub use reader::{Reading, read};
-pub use refusal::{Refusal, number};
+pub use finder::find;
+pub use found::Found;
+pub use reader::read;
+pub use refusal::Refusal;

@@ -1,8 +1,11 @@
-// Why a header is refused, and the page's numbers for it.
+// Why a header is refused, and the rule book's numbers for it.
 ghost use Rattle.std.specs.Prelude.{◌≡◌};
-ghost use Rattle.wave.specs.Walk.{number_of};
+ghost use Rattle.std.proofs.Common.{rules};
+ghost use Rattle.wave.specs.Walk.{refusal_of};
 
-#[derive(Clone, Copy)]
+use answers::refused::{Numbered, Refused};
+
+#[derive(Clone, Copy, Debug, PartialEq, Eq)]
 pub enum Refusal {
     // 21: under 12 bytes, or the names are wrong.
     NotWave,
@@ -16,14 +19,18 @@ pub enum Refusal {
     PartFrame,
 }
 
-pub fn number(refusal: Refusal) -> u8
-    ensures { result ≡ number_of refusal }
-{
-    match refusal {
-        Refusal::NotWave => 21,
-        Refusal::NoFormat => 22,
-        Refusal::WrongFormat => 23,
-        Refusal::CutOff => 24,
-        Refusal::PartFrame => 25,
+impl Numbered for Refusal {
+    ghost refusal = { refusal_of };
+
+    ghost has_number = { Prim.search rules };
+
+    fn refused(self) -> Refused {
+        Refused::plain(match self {
+            Refusal::NotWave => 21,
+            Refusal::NoFormat => 22,
+            Refusal::WrongFormat => 23,
+            Refusal::CutOff => 24,
+            Refusal::PartFrame => 25,
+        })
     }
 }

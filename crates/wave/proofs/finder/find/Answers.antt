@@ -1,4 +1,4 @@
-use Rattle.std.proofs.Common.{◌≡◌, sym, ap, ◌∙◌, Bool, true, false, List, ℕ, min, arith, length, take}
+use Rattle.std.proofs.Common.{◌≡◌, sym, ap, ◌∙◌, Bool, true, false, List, ℕ, min, arith, rules, length, take}
 use lib.Seq.{take_all}
 use Rattle.answers.specs.Answer.{Answer, refused}
 use Rattle.answers.specs.Unit.{front_length}
@@ -6,7 +6,7 @@ use Rattle.fields.specs.Bytes.{lowest}
 use Rattle.fields.proofs.ByTest.{by_order}
 use Rattle.chunks.specs.Walk.{form_length, is_form, walk}
 use Rattle.wave.specs.Names.{riff, wave}
-use Rattle.wave.specs.Walk.{Found, nothing, chunk, find, find_of}
+use Rattle.wave.specs.Walk.{Found, nothing, chunk, find, find_of, found_answer}
 use Rattle.wave.proofs.finder.find.Goals as goal
 
 -- as many elements as there are, or k
@@ -25,8 +25,12 @@ module _ (s : List ℕ) (n : ℕ) (least : n ≡ min (length s) front_length) (r
   unfolding find_of find
   not_wave h = rw (← take-least s front_length n least) (rw (sym is ∙ h))
 
-pub returns-then-is_form : goal.returns-then-is_form
-returns-then-is_form c = search finds
+pub returns-then-not-is_form : goal.returns-then-not-is_form
+returns-then-not-is_form c =
+    let least : c.min.result ≡ min (length c.args.front.now) front_length = search rules in
+    not_wave c.args.front.now c.min.result least c.is_form.result c.is_form.ensures c.if-not-is_form.true
 
 pub returns : goal.returns
-returns c = search not_wave
+returns c =
+    let least : c.min.result ≡ min (length c.args.front.now) front_length = search rules in
+    finds c.args.front.now c.min.result least c.is_form.result c.is_form.ensures (found_answer c.walk.result) c.if-not-is_form.false c.walk.ensures

@@ -4,12 +4,11 @@ use Rattle.answers.specs.Answer.{refused}
 use Rattle.fields.specs.Bytes.{lowest}
 use Rattle.chunks.specs.Walk.{form_length, walk}
 use Rattle.wave.specs.Walk.{nothing, chunk}
-use Rattle.wave.specs.Private.{seen_of}
 use Rattle.wave.proofs.finder.walk.Given as goal
 
 abbrev pub invariant-loop-seen : goal.invariant-loop-seen
 invariant-loop-seen l =
-    walk lowest (refused 24 0) chunk (length l.front) l.front l.at (seen_of l.seen) ≡ walk lowest (refused 24 0) chunk (length l.front) l.front form_length nothing
+    walk lowest (refused 24 0) chunk (length l.front) l.front l.at l.seen ≡ walk lowest (refused 24 0) chunk (length l.front) l.front form_length nothing
 
 abbrev pub decreases-loop-seen : goal.decreases-loop-seen
 decreases-loop-seen l = length l.front + 1 - l.at
