@@ -2,7 +2,7 @@
 use Rattle.std.proofs.Common.{sym, ap, subst, ◌∙◌}
 use Rattle.answers.specs.Answer.{Answer}
 use Rattle.wave.specs.Walk.{refusal_of}
-use Rattle.wave.specs.declared.read.Found.{Found}
+use Rattle.wave.specs.declared.found.Found.{Found}
 use Rattle.parts.specs.Found.{of_found}
 use Rattle.capi.specs.Found.{found_after}
 use Rattle.capi.specs.Private.{StartFits}
