@@ -23,11 +23,10 @@ use Rattle.samples.specs.Channels.{count_of}
 use Rattle.samples.specs.declared.channels.Channels.{Channels}
 use Rattle.wave_values.specs.Values.{fmt_length, known_length, frame_size, whole_coding, coding_of, known_rate, right}
 use Rattle.wave_writer.specs.Header.{written, header_bytes, fmt_contents, header, write_checks, write_of, write_answer}
-use Rattle.wave.specs.Walk.{Found, nothing, sound, first, judged, extra_in, values, fmt_chunk, data_chunk, chunk, find, find_of, whole_frames, read_of}
-use Rattle.wave_values.specs.declared.Coding.TheVariants.{Known}
-use Rattle.wave_values.specs.declared.Sides.TheVariants.{OneOrTwo}
-use Rattle.wave_writer.specs.declared.writer.Written.{Written}
-use Rattle.wave_writer.specs.declared.writer.Written.TheVariants as call
+use Rattle.wave.specs.declared.found.Found.{Found}
+use Rattle.wave.specs.Walk.{nothing, sound, first, judged, extra_in, values, fmt_chunk, data_chunk, chunk, find, find_of, whole_frames, read_of}
+use Rattle.std.specs.Prelude.{Some, Result, Ok}
+use Rattle.wave_writer.specs.declared.writer.WriteError.{WriteError}
 use Rattle.wave.proofs.Chunks.{values_of}
 use Rattle.wave_values.proofs.RightValues.{rate_small, product_fits}
 use Rattle.wave_writer.proofs.Counts.{Count, count_of_lem, count_small, count_back}
@@ -43,13 +42,13 @@ pub record Meant (after : List ℕ) (rate size : ℕ) (channels : ℤ) : Type 0 
   pub small : size ≤ largest_data
   pub is_header : after ≡ header rate size (nat_abs channels)
 
-pub written_means : (buffer after : List ℕ) (n rate size : ℕ) (channels : ℤ) → Done (write_of buffer rate size channels) (call.Header n) after → Meant after rate size channels
+pub written_means : (buffer after : List ℕ) (n rate size : ℕ) (channels : ℤ) → Done (write_of buffer rate size channels) (Ok n) after → Meant after rate size channels
 unfolding write_of all_refuse all_hold
 written_means buffer after n rate size channels d =
     let cs = write_checks buffer rate size channels in
     let bytes = header rate size (nat_abs channels) in
     let rest_of = size % frame_size (nat_abs channels) written in
-    let held : all_hold cs ≡ true = accepted_holds write_answer cs buffer bytes (call.Header header_bytes) n refl (sym (ap write_answer d.result_is)) in
+    let held : all_hold cs ≡ true = accepted_holds write_answer cs buffer bytes (Ok header_bytes) n refl (sym (ap write_answer d.result_is)) in
     let rated = and_right (eqb (length buffer) header_bytes) _ held in
     let sided = and_right (known_rate rate) _ rated in
     let sized = and_right (within fewest_channels most_channels channels) _ sided in
@@ -58,7 +57,7 @@ written_means buffer after n rate size channels d =
       counted = count_of_lem channels (and_left (within fewest_channels most_channels channels) _ sided);
       whole = eqb-true rest_of 0 (and_left (eqb rest_of 0) _ sized);
       small = leb-true size largest_data (and_left (leb size largest_data) true (and_right (eqb rest_of 0) _ sized));
-      is_header = d.lent_is ∙ ap (λ (o : Outcome Written (List ℕ)). o.lent) (all_accept buffer bytes (call.Header header_bytes) cs held);
+      is_header = d.lent_is ∙ ap (λ (o : Outcome (Result ℕ WriteError) (List ℕ)). o.lent) (all_accept buffer bytes (Ok header_bytes) cs held);
     }
 
 -- ---- what the reader finds in a header that was written
@@ -67,7 +66,7 @@ abbrev pub found_in : (rate size : ℕ) → Channels → Found
 found_in rate size channels = record { rate = rate; format = written; channels = channels; size = size; start = header_bytes }
 
 judged-written : (rate : ℕ) (channels : Channels) → known_rate rate ≡ true → let frame = frame_size (count_of channels) written in
-    on (sound rate written channels) ≡ judged (Known written) (OneOrTwo channels) rate (rate * frame) frame
+    on (sound rate written channels) ≡ judged (Some written) (Some channels) rate (rate * frame) frame
 unfolding judged right
 judged-written rate channels k =
     let frame = frame_size (count_of channels) written in
@@ -87,7 +86,7 @@ module _ (rate size : ℕ) (channels : Channels) (t : List ℕ) where
       let frame = frame_size count written in
       let few = count_small channels in
       let fits = product_fits rate frame (rate_small rate known) (omega arith) in
-      values_of (drop 12 (bytes ++ t)) fmt_length 0 1 24 count rate (rate * frame) frame (Known written) (OneOrTwo channels) (on (sound rate written channels))
+      values_of (drop 12 (bytes ++ t)) fmt_length 0 1 24 count rate (rate * frame) frame (Some written) (Some channels) (on (sound rate written channels))
       refl refl refl refl refl (sym (number-row lowest 2 count (omega arith))) (count_back channels) (sym (number-row lowest 4 rate (omega (arith, rate_small rate known))))
       (sym (number-row lowest 4 (rate * frame) fits)) (sym (number-row lowest 2 frame (omega arith))) (judged-written rate channels known)
 
@@ -115,7 +114,7 @@ module _ (rate size : ℕ) (channels : Channels) (t : List ℕ) where
 
 -- a header written is read back, whatever bytes follow
 pub header-read-back : (buffer after rest : List ℕ) (n rate size : ℕ) (channels : Channels) →
-    Done (write_of buffer rate size (pos (count_of channels))) (call.Header n) after → read_of (after ++ rest) ≡ accepted (found_in rate size channels)
+    Done (write_of buffer rate size (pos (count_of channels))) (Ok n) after → read_of (after ++ rest) ≡ accepted (found_in rate size channels)
 unfolding read_of find_of whole_frames
 header-read-back buffer after rest n rate size channels d =
     let count = count_of channels in
@@ -126,7 +125,7 @@ header-read-back buffer after rest n rate size channels d =
     ∙ ap whole_frames (front_is rate size channels (take (front_length - header_bytes) rest) f.known (omega (arith, f.small))) ∙ rw f.whole
 
 -- .. and no other count of channels is ever written
-pub written_channels : (buffer after : List ℕ) (n rate size : ℕ) (channels : ℤ) → Done (write_of buffer rate size channels) (call.Header n) after →
+pub written_channels : (buffer after : List ℕ) (n rate size : ℕ) (channels : ℤ) → Done (write_of buffer rate size channels) (Ok n) after →
     (sides : Channels) × (channels ≡ pos (count_of sides))
 written_channels buffer after n rate size channels d =
     let c = (written_means buffer after n rate size channels d).counted in

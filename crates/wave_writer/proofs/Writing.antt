@@ -20,7 +20,7 @@ use Rattle.samples.specs.declared.channels.Channels.{Channels}
 use Rattle.wave.specs.Names.{riff, wave, fmt, data'}
 use Rattle.wave_values.specs.Values.{fmt_length, frame_size, known_rate}
 use Rattle.wave_writer.specs.Header.{written, header_bytes, riff_size, fmt_contents, header, write_checks, write_of}
-use Rattle.wave_writer.specs.declared.writer.Written.TheVariants.{Header}
+use Rattle.std.specs.Prelude.{Ok}
 use Rattle.wave_writer.proofs.Counts.{count_allowed_lem}
 
 -- ---- lengths
@@ -35,20 +35,20 @@ length-header rate size count = refl
 
 -- ---- rows
 
-pub fmt-row : (rate count frame bits : ℕ) (l m₁ m₂ m₃ m₄ m₅ m₆ : List ℕ) → frame ≡ frame_size count written → bits ≡ bits_of written →
-    m₁ ≡ sets l 20 (row lowest 2 1) → m₂ ≡ sets m₁ 22 (row lowest 2 count) → m₃ ≡ sets m₂ 24 (row lowest 4 rate) →
+pub fmt-row : (rate count told frame bits : ℕ) (l m₁ m₂ m₃ m₄ m₅ m₆ : List ℕ) → told ≡ count → frame ≡ frame_size count written → bits ≡ bits_of written →
+    m₁ ≡ sets l 20 (row lowest 2 1) → m₂ ≡ sets m₁ 22 (row lowest 2 told) → m₃ ≡ sets m₂ 24 (row lowest 4 rate) →
     m₄ ≡ sets m₃ 28 (row lowest 4 (rate * frame)) → m₅ ≡ sets m₄ 32 (row lowest 2 frame) → m₆ ≡ sets m₅ 34 (row lowest 2 bits) →
     m₆ ≡ sets l 20 (fmt_contents rate count)
 unfolding fmt_contents
-fmt-row rate count frame bits l m₁ m₂ m₃ m₄ m₅ m₆ f b e₁ e₂ e₃ e₄ e₅ e₆ =
+fmt-row rate count told frame bits l m₁ m₂ m₃ m₄ m₅ m₆ n f b e₁ e₂ e₃ e₄ e₅ e₆ =
     let t₅ = row lowest 2 frame ++ row lowest 2 bits in
     let t₄ = row lowest 4 (rate * frame) ++ t₅ in
     let t₃ = row lowest 4 rate ++ t₄ in
     let f₅ = behind m₄ m₅ m₆ (row lowest 2 frame) (row lowest 2 bits) 32 2 (length-row lowest 2 frame) e₅ e₆ in
     let f₄ = behind m₃ m₄ m₆ (row lowest 4 (rate * frame)) t₅ 28 4 (length-row lowest 4 (rate * frame)) e₄ f₅ in
     let f₃ = behind m₂ m₃ m₆ (row lowest 4 rate) t₄ 24 4 (length-row lowest 4 rate) e₃ f₄ in
-    let f₂ = behind m₁ m₂ m₆ (row lowest 2 count) t₃ 22 2 (length-row lowest 2 count) e₂ f₃ in
-    behind l m₁ m₆ (row lowest 2 1) (row lowest 2 count ++ t₃) 20 2 (length-row lowest 2 1) e₁ f₂ ∙ rw (f, b)
+    let f₂ = behind m₁ m₂ m₆ (row lowest 2 told) t₃ 22 2 (length-row lowest 2 told) e₂ f₃ in
+    behind l m₁ m₆ (row lowest 2 1) (row lowest 2 told ++ t₃) 20 2 (length-row lowest 2 1) e₁ f₂ ∙ rw (n, f, b)
 
 pub header_row : (rate size count all : ℕ) (l m₁ m₂ m₃ m₄ m₅ : List ℕ) → length l ≡ header_bytes → all ≡ riff_size size →
     m₁ ≡ sets l 0 (chunk_header lowest riff all) → m₂ ≡ sets m₁ 8 wave → m₃ ≡ sets m₂ 12 (chunk_header lowest fmt fmt_length) →
@@ -71,11 +71,11 @@ header_row rate size count all l m₁ m₂ m₃ m₄ m₅ whole is e₁ e₂ e�
 -- a right call of the writer is accepted
 pub write_accepts : (buffer : List ℕ) (rate size : ℕ) (channels : Channels) → length buffer ≡ header_bytes → known_rate rate ≡ true →
     size % frame_size (count_of channels) written ≡ 0 → size ≤ largest_data →
-    write_of buffer rate size (pos (count_of channels)) ≡ record { result = Header header_bytes; lent = header rate size (count_of channels) }
+    write_of buffer rate size (pos (count_of channels)) ≡ record { result = Ok header_bytes; lent = header rate size (count_of channels) }
 unfolding write_of all_hold
 write_accepts buffer rate size channels room known whole small =
     let count = count_of channels in
-    all_accept buffer (header rate size count) (Header header_bytes) (write_checks buffer rate size (pos count))
+    all_accept buffer (header rate size count) (Ok header_bytes) (write_checks buffer rate size (pos count))
     (rw (
       eq-eqb (length buffer) header_bytes room,
       known,

@@ -1,9 +1,10 @@
 -- The header writer.
-use Rattle.std.specs.Prelude.{ℕ, ◌+◌, ◌*◌, ◌%◌, List, [], ◌∷◌, ◌++◌, length, eqb, leb, ℤ, nat_abs}
-use Rattle.answers.specs.Answer.{Answer, accepted, refused}
+use Rattle.std.specs.Prelude.{ℕ, ◌+◌, ◌*◌, ◌%◌, List, [], ◌∷◌, ◌++◌, length, eqb, leb, ℤ, nat_abs, Result, Ok, Err}
+use Rattle.answers.specs.Answer.{Answer, plain, answered}
 use Rattle.answers.specs.Checks.{Check, check, Outcome, decide}
 use Rattle.answers.specs.Range.{within}
 use Rattle.answers.specs.Unit.{fewest_channels, most_channels, largest_data}
+use Rattle.answers.specs.declared.refused.Refused.{Refused}
 use Rattle.fields.specs.Bytes.{lowest, row}
 use Rattle.chunks.specs.Walk.{chunk_header, padded}
 use Rattle.samples.specs.Format.{bits_of}
@@ -11,8 +12,8 @@ use Rattle.samples.specs.declared.format.Format.{Format}
 use Rattle.samples.specs.declared.format.Format.TheVariants.{Bits24}
 use Rattle.wave.specs.Names.{riff, wave, fmt, data'}
 use Rattle.wave_values.specs.Values.{fmt_length, frame_size, known_rate}
-use Rattle.wave_writer.specs.declared.writer.Written.{Written}
-use Rattle.wave_writer.specs.declared.writer.Written.TheVariants.{Header, WrongBuffer, WrongRate, WrongChannels, WrongLength}
+use Rattle.wave_writer.specs.declared.writer.WriteError.{WriteError}
+use Rattle.wave_writer.specs.declared.writer.WriteError.TheVariants.{WrongBuffer, WrongRate, WrongChannels, WrongLength}
 
 -- rule 8.13: the format that is written
 abbrev pub written : Format
@@ -38,23 +39,26 @@ header rate size count =
     chunk_header lowest riff (riff_size size) ++ (wave ++ (chunk_header lowest fmt fmt_length ++ (fmt_contents rate count ++ chunk_header lowest data' size)))
 
 -- rule 6.8: the checks of `write`: a buffer of 44 bytes, one of the two rates, one or two channels, a length of whole frames that the RIFF length can hold
-abbrev pub write_checks : List ℕ → (rate size : ℕ) → (channels : ℤ) → List (Check Written)
+abbrev pub write_checks : List ℕ → (rate size : ℕ) → (channels : ℤ) → List (Check (Result ℕ WriteError))
 write_checks buffer rate size channels =
-    check (eqb (length buffer) header_bytes) WrongBuffer ∷
-    check (known_rate rate) WrongRate ∷
-    check (within fewest_channels most_channels channels) WrongChannels ∷
-    check (eqb (size % frame_size (nat_abs channels) written) 0) WrongLength ∷
-    check (leb size largest_data) WrongLength ∷ []
+    check (eqb (length buffer) header_bytes) (Err WrongBuffer) ∷
+    check (known_rate rate) (Err WrongRate) ∷
+    check (within fewest_channels most_channels channels) (Err WrongChannels) ∷
+    check (eqb (size % frame_size (nat_abs channels) written) 0) (Err WrongLength) ∷
+    check (leb size largest_data) (Err WrongLength) ∷ []
 
 -- rule 6.8, header writer: `write`, with the buffer afterwards
-unfoldable pub write_of : List ℕ → (rate size : ℕ) → (channels : ℤ) → Outcome Written (List ℕ)
+unfoldable pub write_of : List ℕ → (rate size : ℕ) → (channels : ℤ) → Outcome (Result ℕ WriteError) (List ℕ)
 write_of buffer rate size channels =
-    decide (write_checks buffer rate size channels) buffer (Header header_bytes) (header rate size (nat_abs channels))
+    decide (write_checks buffer rate size channels) buffer (Ok header_bytes) (header rate size (nat_abs channels))
 
--- rule 6.8: numbers and values for `Written`
-abbrev pub write_answer : Written → Answer ℕ
-write_answer (Header n) = accepted n
-write_answer WrongBuffer = refused 27 0
-write_answer WrongRate = refused 28 0
-write_answer WrongChannels = refused 9 0
-write_answer WrongLength = refused 26 0
+-- rule 6.8: the numbers of `WriteError`
+abbrev pub write_refusal : WriteError → Refused
+write_refusal WrongBuffer = plain 27
+write_refusal WrongRate = plain 28
+write_refusal WrongChannels = plain 9
+write_refusal WrongLength = plain 26
+
+-- rule 6.8: numbers and values of `write`
+abbrev pub write_answer : Result ℕ WriteError → Answer ℕ
+write_answer r = answered write_refusal r

@@ -4,4 +4,4 @@
 
 mod writer;
 
-pub use writer::{Written, write};
+pub use writer::{WriteError, write};

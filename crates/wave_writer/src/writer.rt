@@ -1,28 +1,28 @@
 // The header writer: 44 bytes before 24-bit samples.
-ghost use Rattle.std.specs.Prelude.{◌≡◌, ◌+◌, ◌<◌, ◌≤◌, length};
+ghost use Rattle.std.specs.Prelude.{◌≡◌, ◌≤◌, false, pos, length, MatchOption};
+ghost use Rattle.std.proofs.Common.{rules};
 ghost use Rattle.std.proofs.lemmas.List.Edits.{sets};
 ghost use Rattle.answers.specs.Checks.{Done};
-ghost use Rattle.answers.specs.Unit.{largest_data};
-ghost use Rattle.wave_values.specs.Values.{frame_size};
-ghost use Rattle.wave_writer.specs.Header.{written, header_bytes, riff_size, header, fmt_contents, write_of};
+ghost use Rattle.answers.specs.Range.{within};
+ghost use Rattle.answers.specs.Unit.{fewest_channels, most_channels, largest_data};
+ghost use Rattle.samples.specs.Channels.{count_of};
+ghost use Rattle.wave_writer.specs.Header.{header_bytes, riff_size, header, fmt_contents, write_of, write_refusal};
 
-use answers::range::within;
-use answers::unit::{FEWEST_CHANNELS, LARGEST_DATA, MOST_CHANNELS};
+use answers::refused::{Numbered, Refused};
+use answers::unit::LARGEST_DATA;
 use chunks::lowest::put_chunk;
 use chunks::place::padding;
-use fields::lowest::{put_four, put_two};
 use fields::names::put_name;
-use samples::{Format, bits, bytes_each};
-use wave_values::{FMT_LENGTH, known_rate};
+use fields::number::{Lowest, put_number};
+use samples::{Channels, Format};
+use wave_values::{FMT_LENGTH, channels_of, frame_size, known_rate};
 
 // The bytes of the header.
 const HEADER_BYTES: usize = 44;
 
-// What `write` answers.
-#[derive(Clone, Copy)]
-pub enum Written {
-    // The number of bytes written, 44.
-    Header(usize),
+// Why `write` refuses.
+#[derive(Clone, Copy, Debug, PartialEq, Eq)]
+pub enum WriteError {
     // 27: the buffer is not 44 bytes.
     WrongBuffer,
     // 28: the rate is neither of the two.
@@ -33,26 +33,40 @@ pub enum Written {
     WrongLength,
 }
 
-// The bytes of one frame of 24 bits.
-fn frame_of(count: u32) -> u32
-    requires { (0 < count) × (count < 3) }
-    ensures { (result ≡ frame_size count written) × (0 < result) × (result < 9) }
+impl Numbered for WriteError {
+    ghost refusal = { write_refusal };
+
+    ghost has_number = { Prim.search rules };
+
+    fn refused(self) -> Refused {
+        Refused::plain(match self {
+            WriteError::WrongBuffer => 27,
+            WriteError::WrongRate => 28,
+            WriteError::WrongChannels => 9,
+            WriteError::WrongLength => 26,
+        })
+    }
+}
+
+// The channels of a count that may be any number.
+fn sides_of(count: i32) -> Option<Channels>
+    ensures { MatchOption result (within fewest_channels most_channels count ≡ false) (λ channels. count ≡ pos (count_of channels)) }
 {
-    count * bytes_each(Format::Bits24)
+    channels_of(u32::try_from(count).ok()?)
 }
 
 // The contents of `fmt ` for 24 bits, in their place.
-fn put_format(buffer: &mut [u8], rate: u32, count: u32)
-    requires { (36 ≤ length buffer.old) × (rate ≤ 48000) × (0 < count) × (count < 3) }
-    ensures { buffer.new ≡ sets buffer.old 20 (fmt_contents rate count) }
+fn put_format(buffer: &mut [u8], rate: u32, channels: Channels)
+    requires { (36 ≤ length buffer.old) × (rate ≤ 48000) }
+    ensures { buffer.new ≡ sets buffer.old 20 (fmt_contents rate (count_of channels)) }
 {
-    let frame = frame_of(count);
-    put_two(buffer, 20, 1);
-    put_two(buffer, 22, count);
-    put_four(buffer, 24, rate);
-    put_four(buffer, 28, rate * frame);
-    put_two(buffer, 32, frame);
-    put_two(buffer, 34, bits(Format::Bits24));
+    let frame = frame_size(channels, Format::Bits24);
+    put_number::<Lowest, 2>(buffer, 20, 1);
+    put_number::<Lowest, 2>(buffer, 22, channels.count());
+    put_number::<Lowest, 4>(buffer, 24, rate);
+    put_number::<Lowest, 4>(buffer, 28, rate * frame);
+    put_number::<Lowest, 2>(buffer, 32, frame);
+    put_number::<Lowest, 2>(buffer, 34, Format::Bits24.bits());
 }
 
 // The RIFF length: all that follows it in the file.
@@ -63,37 +77,36 @@ fn riff_size(size: u32) -> u32
     size + padding(size as usize) as u32 + 36
 }
 
-fn put_header(buffer: &mut [u8], rate: u32, size: u32, count: u32)
-    requires { (length buffer.old ≡ header_bytes) × (rate ≤ 48000) × (size ≤ largest_data) × (0 < count) × (count < 3) }
-    ensures { buffer.new ≡ header rate size count }
+fn put_header(buffer: &mut [u8], rate: u32, size: u32, channels: Channels)
+    requires { (length buffer.old ≡ header_bytes) × (rate ≤ 48000) × (size ≤ largest_data) }
+    ensures { buffer.new ≡ header rate size (count_of channels) }
 {
     put_chunk(buffer, 0, b"RIFF", riff_size(size));
     put_name(buffer, 8, b"WAVE");
     put_chunk(buffer, 12, b"fmt ", FMT_LENGTH);
-    put_format(buffer, rate, count);
+    put_format(buffer, rate, channels);
     put_chunk(buffer, 36, b"data", size);
 }
 
 // Writes the header of `size` bytes of 24-bit samples at a rate, in one or two channels.
-pub fn write(buffer: &mut [u8], rate: u32, size: u32, channels: i32) -> Written
+pub fn write(buffer: &mut [u8], rate: u32, size: u32, channels: i32) -> Result<usize, WriteError>
     ensures { Done (write_of buffer.old rate size channels) result buffer.new }
 {
     if buffer.len() != HEADER_BYTES {
-        return Written::WrongBuffer;
+        return Err(WriteError::WrongBuffer);
     }
     if !known_rate(rate) {
-        return Written::WrongRate;
+        return Err(WriteError::WrongRate);
     }
-    if !within(FEWEST_CHANNELS, MOST_CHANNELS, channels) {
-        return Written::WrongChannels;
-    }
-    let count = channels as u32;
-    if size % frame_of(count) != 0 {
-        return Written::WrongLength;
+    let Some(sides) = sides_of(channels) else {
+        return Err(WriteError::WrongChannels);
+    };
+    if size % frame_size(sides, Format::Bits24) != 0 {
+        return Err(WriteError::WrongLength);
     }
     if LARGEST_DATA < size {
-        return Written::WrongLength;
+        return Err(WriteError::WrongLength);
     }
-    put_header(buffer, rate, size, count);
-    Written::Header(HEADER_BYTES)
+    put_header(buffer, rate, size, sides);
+    Ok(HEADER_BYTES)
 }
