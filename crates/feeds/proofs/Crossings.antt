@@ -8,19 +8,18 @@ use borrow.Author.Tests.{eq-eqb}
 use lib.Dec.{eqb, leb}
 use lib.ListN.{length}
 use lib.IntN.{ℤ, pos, nat_abs}
+use Rattle.std.specs.Prelude.{Result, Ok}
 use Rattle.answers.specs.Answer.{accepted, number_in}
 use Rattle.answers.specs.Checks.{all_hold, Outcome}
 use Rattle.answers.specs.Range.{all_within}
 use Rattle.answers.specs.Unit.{least_sample, most_sample, largest_gain, block_limit}
 use Rattle.answers.proofs.Laws.{and_left, and_right, all_accept}
-use Rattle.octave.specs.declared.block.Blocked.{Blocked}
-use Rattle.octave.specs.declared.block.Blocked.TheVariants as blocked
+use Rattle.octave.specs.declared.block.BlockError.{BlockError}
 use Rattle.octave.specs.Answer.{block_answer}
 use Rattle.octave.specs.Memory.{bands_in, channels_in, accepts}
 use Rattle.octave.specs.Block.{frames_of, block_checks, equalised, block_of}
 use Rattle.octave.proofs.Refusals.{block_held}
 use Rattle.history.specs.History.{called}
-use Rattle.crossover.specs.declared.cross.Crossed.TheVariants as cross-case
 use Rattle.crossover.specs.Answer.{cross_answer}
 use Rattle.crossover.specs.Feeds.{Feed, bass, horn, goes, feed_gains}
 use Rattle.crossover.specs.Cross.{split_allowed, cross_checks, crossed}
@@ -76,7 +75,7 @@ module _ (m : List ℤ) (x : Crossing) where
 
   -- it ran its samples: every check held
   pub record Ran : Type 0 where
-    pub is : crossing m x ≡ record { result = cross-case.Written (frames_of m x.input); lent = crossed m x.gains (nat_abs x.split) x.input }
+    pub is : crossing m x ≡ record { result = Ok (frames_of m x.input); lent = crossed m x.gains (nat_abs x.split) x.input }
     good : Good m x.gains x.input
     pub long : (f : Feed) → eqb (length (x.before f)) (length x.input) ≡ true
 
@@ -102,7 +101,7 @@ module _ (m : List ℤ) (x : Crossing) where
       let h = cross_held m x.gains x.split x.input (x.before bass) (x.before horn) e in
       record {
         is =
-            all_accept (m, x.before bass, x.before horn) (crossed m x.gains (nat_abs x.split) x.input) (cross-case.Written (frames_of m x.input))
+            all_accept (m, x.before bass, x.before horn) (crossed m x.gains (nat_abs x.split) x.input) (Ok (frames_of m x.input))
             (cross_checks m x.gains x.split x.input (x.before bass) (x.before horn)) h;
         good = good_of h;
         long = long_of h;
@@ -113,16 +112,16 @@ module _ (m : List ℤ) (x : Crossing) where
 module _ (m : List ℤ) (x : Crossing) (ran : Ran m x) where
   -- rule 16.4: as a plain call of either feed it is accepted, and does this
   pub as_feed_lem : (f : Feed) → called m (as_feed f (cross x)) ≡
-      record { result = blocked.Written (frames_of m x.input); lent = equalised m (feed_gains f (nat_abs x.split) x.gains) x.input }
+      record { result = Ok (frames_of m x.input); lent = equalised m (feed_gains f (nat_abs x.split) x.gains) x.input }
   as_feed_lem f =
       let gains = feed_gains f (nat_abs x.split) x.gains in
-      all_accept (m, x.before f) (equalised m gains x.input) (blocked.Written (frames_of m x.input)) (block_checks m gains x.input (x.before f))
+      all_accept (m, x.before f) (equalised m gains x.input) (Ok (frames_of m x.input)) (block_checks m gains x.input (x.before f))
       (good_block m gains x.input (x.before f) (good_for f m x.gains x.input (nat_abs x.split) ran.good) (ran.long f))
 
   -- rule 16.4: that feed of its outputs is the plain call's output
   pub feed_same : (f : Feed) → places_in f (crossing m x).lent ≡ (called m (as_feed f (cross x))).lent.1
   feed_same f =
-      ap (λ (o : Outcome _ (List ℤ × List ℤ × List ℤ)). places_in f o.lent) ran.is ∙ of f ∙ sym (ap (λ (o : Outcome Blocked (List ℤ × List ℤ)). o.lent.1) (as_feed_lem f))
+      ap (λ (o : Outcome _ (List ℤ × List ℤ × List ℤ)). places_in f o.lent) ran.is ∙ of f ∙ sym (ap (λ (o : Outcome (Result ℕ BlockError) (List ℤ × List ℤ)). o.lent.1) (as_feed_lem f))
     where
       of : (f : Feed) → places_in f (crossed m x.gains (nat_abs x.split) x.input) ≡ (equalised m (feed_gains f (nat_abs x.split) x.gains) x.input).1
       of bass = feed_is bass m x.gains (nat_abs x.split) x.input
@@ -134,9 +133,9 @@ module _ (m : List ℤ) (x : Crossing) (ran : Ran m x) where
 
   -- rule 16.3: and that plain call is accepted: a crossover call may stand where a plain one may
   pub plain_accepted : (before : List ℤ) → length before ≡ length x.input →
-      block_of m x.gains x.input before ≡ record { result = blocked.Written (frames_of m x.input); lent = equalised m x.gains x.input }
+      block_of m x.gains x.input before ≡ record { result = Ok (frames_of m x.input); lent = equalised m x.gains x.input }
   plain_accepted before e =
-      all_accept (m, before) (equalised m x.gains x.input) (blocked.Written (frames_of m x.input)) (block_checks m x.gains x.input before)
+      all_accept (m, before) (equalised m x.gains x.input) (Ok (frames_of m x.input)) (block_checks m x.gains x.input before)
       (good_block m x.gains x.input before ran.good (eq-eqb (length before) (length x.input) e))
 
 -- rule 16.3: where a plain call is accepted, so is a crossover call with its gains and samples, whatever allowed split; it answers the same number
@@ -148,6 +147,6 @@ crossing_accepted m x before e split long =
     let l = eq-eqb (length (x.before bass)) (length x.input) (long bass) in
     let h = eq-eqb (length (x.before horn)) (length x.input) (long horn) in
     ap (λ (o : Outcome _ (List ℤ × List ℤ × List ℤ)). cross_answer o.result)
-    (all_accept (m, x.before bass, x.before horn) (crossed m x.gains (nat_abs x.split) x.input) (cross-case.Written (frames_of m x.input))
+    (all_accept (m, x.before bass, x.before horn) (crossed m x.gains (nat_abs x.split) x.input) (Ok (frames_of m x.input))
     (cross_checks m x.gains x.split x.input (x.before bass) (x.before horn))
     (rw (g.kept, g.counted, split, g.allowed, l, h, g.whole, g.short, g.in_range) refl))

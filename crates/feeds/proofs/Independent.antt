@@ -10,11 +10,12 @@ use lib.Dec.{eqb}
 use lib.ListN.{length, get_or, drop}
 use lib.Seq.{ext_get_or}
 use lib.IntN.{ℤ, pos}
+use Rattle.std.specs.Prelude.{Result}
 use Rattle.answers.specs.Answer.{Answer, accepted, number_in}
 use Rattle.answers.specs.Checks.{Outcome}
 use Rattle.frames.specs.Frames.{woven}
 use Rattle.tree.specs.Signal.{gain_of}
-use Rattle.octave.specs.declared.block.Blocked.{Blocked}
+use Rattle.octave.specs.declared.block.BlockError.{BlockError}
 use Rattle.octave.specs.Memory.{channels_in}
 use Rattle.octave.specs.Block.{frames_of, ran_side, equalised}
 use Rattle.history.specs.History.{Call, called, after_call, is_accepted, played, AllAccepted}
@@ -77,9 +78,9 @@ plays_alike m (c ∷ cs) [] p q e = absurd (omega (arith, ap length e))
 plays_alike m (c ∷ cs) (d ∷ ds) p q e =
     let one : said c ≡ said d = ap (λ (l : List (List ℤ × List ℤ)). get_or l 0 ([], [])) e in
     let lent : (called m c).lent ≡ (called m d).lent =
-    ap (λ (o : Outcome Blocked (List ℤ × List ℤ)). o.lent) (unnumbered_ran m c.gains c.input c.before (ap number_in p.0)).is ∙
+    ap (λ (o : Outcome (Result ℕ BlockError) (List ℤ × List ℤ)). o.lent) (unnumbered_ran m c.gains c.input c.before (ap number_in p.0)).is ∙
     ap (λ (r : List ℤ × List ℤ). equalised m r.0 r.1) one ∙
-    sym (ap (λ (o : Outcome Blocked (List ℤ × List ℤ)). o.lent) (unnumbered_ran m d.gains d.input d.before (ap number_in q.0)).is) in
+    sym (ap (λ (o : Outcome (Result ℕ BlockError) (List ℤ × List ℤ)). o.lent) (unnumbered_ran m d.gains d.input d.before (ap number_in q.0)).is) in
     let memory : after_call m c ≡ after_call m d = ap (λ (l : List ℤ × List ℤ). l.0) lent in
     let rest : played (after_call m c) cs ≡ played (after_call m d) ds =
     plays_alike (after_call m c) cs ds p.1 (subst (λ (k : List ℤ). AllAccepted k ds) (sym memory) q.1) (ap (drop 1) e) ∙ ap (λ (k : List ℤ). played k ds) memory in

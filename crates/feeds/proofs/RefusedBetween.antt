@@ -4,11 +4,12 @@ use mathlib.Core.Bool.{Bool, true, false, cond}
 use mathlib.Core.List.{List, [], ◌∷◌}
 use borrow.Author.Tests.{eqb-true, eqb-false}
 use lib.IntN.{ℤ}
+use Rattle.std.specs.Prelude.{ℕ, Result}
 use Rattle.answers.specs.Answer.{accepted, number_in}
 use Rattle.answers.specs.Checks.{Outcome}
 use Rattle.octave.specs.Block.{frames_of}
 use Rattle.history.proofs.RefusedBetween.{accepted_length, refused_memory}
-use Rattle.crossover.specs.declared.cross.Crossed.{Crossed}
+use Rattle.crossover.specs.declared.cross.CrossError.{CrossError}
 use Rattle.crossover.specs.Answer.{cross_answer}
 use Rattle.crossover.specs.Feeds.{Feed, bass, horn}
 use Rattle.crossover.proofs.Refusals.{cross_keeps}
@@ -22,7 +23,7 @@ use Rattle.feeds.proofs.Runs.{joining}
 pub taken_answers : (m : List ℤ) (a : AnyCall) → taken m a ≡ true → answered m a ≡ accepted (frames_of m (as_plain a).input)
 taken_answers m (plain c) e = accepted_length m c e
 taken_answers m (cross x) e =
-    ap (λ (o : Outcome Crossed (List ℤ × List ℤ × List ℤ)). cross_answer o.result)
+    ap (λ (o : Outcome (Result ℕ CrossError) (List ℤ × List ℤ × List ℤ)). cross_answer o.result)
     (crossing_ran m x (eqb-true (number_in (answered m (cross x))) 0 e)).is
 
 -- a refused one leaves the memory

@@ -6,13 +6,14 @@ use mathlib.Core.List.{List, [], ◌∷◌, ◌++◌}
 use Prim.Native.Nat.{ℕ}
 use lib.Dec.{eqb}
 use lib.IntN.{ℤ, nat_abs}
+use Rattle.std.specs.Prelude.{Result}
 use Rattle.answers.specs.Answer.{Answer, accepted, number_in}
 use Rattle.answers.specs.Checks.{Outcome}
-use Rattle.octave.specs.declared.block.Blocked.{Blocked}
+use Rattle.octave.specs.declared.block.BlockError.{BlockError}
 use Rattle.octave.specs.Answer.{block_answer}
 use Rattle.octave.specs.Block.{frames_of}
 use Rattle.history.specs.History.{called, after_call, is_accepted, Played, played, AllAccepted, joined}
-use Rattle.crossover.specs.declared.cross.Crossed.{Crossed}
+use Rattle.crossover.specs.declared.cross.CrossError.{CrossError}
 use Rattle.crossover.specs.Answer.{cross_answer}
 use Rattle.crossover.specs.Feeds.{Feed, feed_gains}
 use Rattle.feeds.specs.Mixed.{AnyCall, plain, cross, answered, after_any, fed_by, taken, mixed, as_plain, as_feed, feed_calls, samples, AllTaken}
@@ -34,10 +35,10 @@ seen f m (cross x) e =
     let is = as_feed_lem m x ran f in
     record {
       answer =
-          ap (λ (o : Outcome Blocked (List ℤ × List ℤ)). block_answer o.result) is ∙
-          sym (ap (λ (o : Outcome Crossed (List ℤ × List ℤ × List ℤ)). cross_answer o.result) ran.is);
+          ap (λ (o : Outcome (Result ℕ BlockError) (List ℤ × List ℤ)). block_answer o.result) is ∙
+          sym (ap (λ (o : Outcome (Result ℕ CrossError) (List ℤ × List ℤ × List ℤ)). cross_answer o.result) ran.is);
       input = refl;
-      memory = memory_same_as m x ran (feed_gains f (nat_abs x.split) x.gains) ∙ sym (ap (λ (o : Outcome Blocked (List ℤ × List ℤ)). o.lent.0) is);
+      memory = memory_same_as m x ran (feed_gains f (nat_abs x.split) x.gains) ∙ sym (ap (λ (o : Outcome (Result ℕ BlockError) (List ℤ × List ℤ)). o.lent.0) is);
       output = feed_same m x ran f;
     }
 

@@ -6,9 +6,10 @@ use Prim.Native.Nat.{ℕ}
 use borrow.Author.Tests.{eqb-true}
 use lib.ListN.{length}
 use lib.IntN.{ℤ}
+use Rattle.std.specs.Prelude.{Result}
 use Rattle.answers.specs.Answer.{accepted, number_in}
 use Rattle.answers.specs.Checks.{Outcome}
-use Rattle.octave.specs.declared.block.Blocked.{Blocked}
+use Rattle.octave.specs.declared.block.BlockError.{BlockError}
 use Rattle.octave.specs.Answer.{block_answer}
 use Rattle.octave.specs.Memory.{bands_in}
 use Rattle.octave.specs.Block.{frames_of}
@@ -27,7 +28,7 @@ plain_after m (cross x) e =
     let ran = crossing_ran m x e in
     memory_same_as m x ran x.gains ∙
     sym
-    (ap (λ (o : Outcome Blocked (List ℤ × List ℤ)). o.lent.0)
+    (ap (λ (o : Outcome (Result ℕ BlockError) (List ℤ × List ℤ)). o.lent.0)
     (plain_accepted m x ran (x.before bass) (eqb-true (length (x.before bass)) (length x.input) (ran.long bass))))
 
 served : (m : List ℤ) (a : AnyCall) → block_answer (called m (as_plain a)).result ≡ accepted (frames_of m (as_plain a).input) → Ready (bands_in m) a →
@@ -37,7 +38,7 @@ served m (cross x) h r = crossing_accepted m x (x.before bass) (ap number_in h) 
 
 -- the memory keeps its number of bands
 bands_kept : (m : List ℤ) (c : Call) → number_in (block_answer (called m c).result) ≡ 0 → bands_in (after_call m c) ≡ bands_in m
-bands_kept m c e = ap (λ (o : Outcome Blocked (List ℤ × List ℤ)). bands_in o.lent.0) (unnumbered_ran m c.gains c.input c.before e).is
+bands_kept m c e = ap (λ (o : Outcome (Result ℕ BlockError) (List ℤ × List ℤ)). bands_in o.lent.0) (unnumbered_ran m c.gains c.input c.before e).is
 
 -- ---- calls in turn
 

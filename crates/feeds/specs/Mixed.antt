@@ -1,5 +1,5 @@
 -- Plain and crossover calls one after the other, from some memory on: rules 16.3 to 16.7. One feed f of them at a time.
-use Rattle.std.specs.Prelude.{◌≡◌, Bool, true, cond, List, [], ◌∷◌, ◌++◌, map, ℕ, ◌+◌, ◌*◌, ◌/◌, ◌≤◌, ◌<◌, eqb, length, get_or, ℤ, pos, nat_abs}
+use Rattle.std.specs.Prelude.{◌≡◌, Bool, true, cond, List, [], ◌∷◌, ◌++◌, map, ℕ, ◌+◌, ◌*◌, ◌/◌, ◌≤◌, ◌<◌, eqb, length, get_or, ℤ, pos, nat_abs, Result}
 use Rattle.answers.specs.Answer.{Answer, accepted, number_in}
 use Rattle.answers.specs.Checks.{Outcome}
 use Rattle.frames.specs.Frames.{side_of}
@@ -10,7 +10,7 @@ use Rattle.octave.specs.Answer.{block_answer}
 use Rattle.octave.specs.Memory.{prepared}
 use Rattle.octave.specs.Block.{frames_of}
 use Rattle.history.specs.History.{Call, called, Played, joined, carried, side_calls}
-use Rattle.crossover.specs.declared.cross.Crossed.{Crossed}
+use Rattle.crossover.specs.declared.cross.CrossError.{CrossError}
 use Rattle.crossover.specs.Answer.{cross_answer}
 use Rattle.crossover.specs.Feeds.{Feed, bass, horn, goes, feed_gains}
 use Rattle.crossover.specs.Cross.{split_allowed, cross_of}
@@ -30,7 +30,7 @@ pub data AnyCall : Type 0 where
   cross : Crossing → AnyCall
 
 -- rule 16.3: what a crossover call does to a memory
-abbrev pub crossing : List ℤ → Crossing → Outcome Crossed (List ℤ × List ℤ × List ℤ)
+abbrev pub crossing : List ℤ → Crossing → Outcome (Result ℕ CrossError) (List ℤ × List ℤ × List ℤ)
 crossing m x = cross_of m x.gains x.split x.input (x.before bass) (x.before horn)
 
 -- rule 16.3: the places of a feed, among memory, bass and horn

@@ -2,11 +2,12 @@
 use mathlib.Core.Path.{◌≡◌, ap}
 use mathlib.Core.Bool.{true}
 use mathlib.Core.List.{List, [], ◌∷◌, ◌++◌}
-use Prim.Native.Nat.{ℕ, zero, suc, ◌+◌, ◌≤◌, ◌<◌}
+use Prim.Native.Nat.{ℕ, zero, suc, ◌≤◌, ◌<◌}
 use native.Mathlib.Decide.{dec_lt}
 use native.Mathlib.Omega.{arith}
 use lib.ListN.{length, get_or, get_or-eq_default}
 use lib.IntN.{ℤ, pos, nat_abs}
+use Rattle.std.specs.Prelude.{Ok}
 use Rattle.answers.specs.Answer.{accepted, number_in}
 use Rattle.answers.specs.Checks.{all_hold}
 use Rattle.answers.specs.Range.{within, all_within}
@@ -17,7 +18,6 @@ use Rattle.whole.proofs.Signed.{about}
 use Rattle.tree.specs.Prototype.{published}
 use Rattle.tree.specs.Signal.{Signal, signal_of}
 use Rattle.tree.proofs.NeverLimited.{published_low_pass_never_limited}
-use Rattle.octave.specs.declared.block.Blocked.TheVariants.{Written}
 use Rattle.octave.specs.Answer.{block_answer}
 use Rattle.octave.specs.Block.{frames_of, block_checks, equalised, block_of}
 use Rattle.octave.proofs.Ranges.{within_parts}
@@ -29,7 +29,7 @@ use Rattle.history.proofs.Holds.{Unlimited, Free, free_of}
 
 -- an accepted call ran its samples: every check held
 pub record RanIt (m gains input before : List ℤ) : Type 0 where
-  pub is : block_of m gains input before ≡ record { result = Written (frames_of m input); lent = equalised m gains input }
+  pub is : block_of m gains input before ≡ record { result = Ok (frames_of m input); lent = equalised m gains input }
   pub held : all_hold (block_checks m gains input before) ≡ true
   pub gains_allowed : all_within (pos 0) (pos largest_gain) gains ≡ true
   pub in_range : all_within least_sample most_sample input ≡ true
@@ -47,7 +47,7 @@ module _ (m gains input before : List ℤ) where
   unnumbered_ran e =
       let cs = block_checks m gains input before in
       let after = equalised m gains input in
-      let r = Written (frames_of m input) in
+      let r = Ok (frames_of m input) in
       let held = block_held m gains input before e in
       record { is = all_accept (m, before) after r cs held; held = held; gains_allowed = gains_held held; in_range = input_held held }
 

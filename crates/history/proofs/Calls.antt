@@ -7,6 +7,7 @@ use native.Mathlib.Omega.{arith}
 use lib.Pow.{pow_pos}
 use lib.ListN.{length, get_or, replicate, length-replicate}
 use lib.IntN.{ℤ, pos}
+use Rattle.std.specs.Prelude.{Result}
 use Rattle.answers.specs.Answer.{accepted}
 use Rattle.answers.specs.Checks.{Outcome}
 use Rattle.tree.specs.Prototype.{Prototype, published}
@@ -16,7 +17,7 @@ use Rattle.lines.specs.Cascade.{run}
 use Rattle.ring.specs.Helpers.{Centred}
 use Rattle.ring.proofs.Places.{published_centred}
 use Rattle.lines.specs.Helpers.{Region}
-use Rattle.octave.specs.declared.block.Blocked.{Blocked}
+use Rattle.octave.specs.declared.block.BlockError.{BlockError}
 use Rattle.octave.specs.Answer.{block_answer}
 use Rattle.octave.specs.Memory.{line_length, side_places, memory_of, prepared}
 use Rattle.weighing.specs.Weighing.{outputs}
@@ -117,7 +118,7 @@ call_keeps M x n m c l free s a e g agree =
     let r = run published (line_length M) (M - 1) s.at s.lines input in
     let after = memory_of (record { count = pos M; channels = pos 1; position = pos r.position; lines = r.places }) in
     let is : (called m c).lent ≡ (after, outputs (λ _. gain_of gains) r.aligned) =
-    ap (λ (o : Outcome Blocked (List ℤ × List ℤ)). o.lent) (accepted_ran m gains input c.before (frames_of m input) a).is ∙
+    ap (λ (o : Outcome (Result ℕ BlockError) (List ℤ × List ℤ)). o.lent) (accepted_ran m gains input c.before (frames_of m input) a).is ∙
     ap (λ (q : List ℤ). equalised q gains input) s.memory_is ∙ one_channel_block M s.at s.lines gains input s.region.whole in
     subst (λ (t : List ℤ × List ℤ). Called published M x n g input t.0 t.1) (sym is)
     (record {

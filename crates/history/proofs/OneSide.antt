@@ -11,6 +11,7 @@ use lib.Dec.{eqb, leb}
 use lib.ListN.{length, length-drop}
 use lib.IntN.{ℤ, pos, nat_abs}
 use lib.Signed.{pos-nat_abs}
+use Rattle.std.specs.Prelude.{Ok}
 use Rattle.answers.specs.Checks.{all_hold}
 use Rattle.answers.specs.Range.{within, all_within}
 use Rattle.answers.specs.Unit.{least_sample, most_sample, largest_gain, block_limit}
@@ -24,7 +25,6 @@ use Rattle.lines.specs.Cascade.{Ran}
 use Rattle.lines.proofs.Lengths.{run_places, run_length, run_position}
 use Rattle.weighing.specs.Weighing.{outputs}
 use Rattle.weighing.proofs.GainSums.{outputs-length}
-use Rattle.octave.specs.declared.block.Blocked.TheVariants.{Written}
 use Rattle.octave.specs.Memory.{line_length, side_places, head_places, held_in, bands_in, channels_in, accepts}
 use Rattle.octave.specs.Block.{frames_of, block_checks, ran_side, equalised, block_of}
 use Rattle.octave.proofs.Memories.{not_negative, Accepted, accepted_is, accepted_count, accepts_is, channels_few}
@@ -173,10 +173,10 @@ module _ (m gains input before : List ℤ) (ran : RanIt m gains input before) (s
 
   -- one side of the call is the call of one channel with that side
   pub side_block : block_of (side_memory s m) gains (side_of (channels_in m) s input) (side_of (channels_in m) s before) ≡
-      record { result = Written (frames_of m input); lent = (side_memory s (equalised m gains input).0, side_of (channels_in m) s (equalised m gains input).1) }
+      record { result = Ok (frames_of m input); lent = (side_memory s (equalised m gains input).0, side_of (channels_in m) s (equalised m gains input).1) }
   side_block =
       let m' = side_memory s m in
       let input' = side_of (channels_in m) s input in
       let before' = side_of (channels_in m) s before in
-      all_accept (m', before') (equalised m' gains input') (Written (frames_of m' input')) (block_checks m' gains input' before') (each_holds m' gains input' before' side-judged) ∙
-      ap₂ (λ (f : ℕ) (l : List ℤ × List ℤ). record { result = Written f; lent = l }) frames_same side_lent
+      all_accept (m', before') (equalised m' gains input') (Ok (frames_of m' input')) (block_checks m' gains input' before') (each_holds m' gains input' before' side-judged) ∙
+      ap₂ (λ (f : ℕ) (l : List ℤ × List ℤ). record { result = Ok f; lent = l }) frames_same side_lent

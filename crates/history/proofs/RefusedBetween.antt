@@ -7,6 +7,7 @@ use Prim.Native.Nat.{ℕ, ◌+◌, ◌*◌, ◌≤◌, ◌<◌}
 use borrow.Author.Tests.{eqb-true, eqb-false}
 use lib.ListN.{length, get_or}
 use lib.IntN.{ℤ, pos, nat_abs, ◌-ℤ◌, ◌*ℤ◌}
+use Rattle.std.specs.Prelude.{Result, Ok}
 use Rattle.answers.specs.Answer.{accepted, number_in}
 use Rattle.answers.specs.Checks.{Outcome}
 use Rattle.answers.proofs.Laws.{refused_keeps}
@@ -15,8 +16,7 @@ use Rattle.tree.specs.Prototype.{published}
 use Rattle.tree.specs.Signal.{signal_of}
 use Rattle.tree.specs.Tree.{output}
 use Rattle.tree.specs.Exact.{common_scale, slack}
-use Rattle.octave.specs.declared.block.Blocked.{Blocked}
-use Rattle.octave.specs.declared.block.Blocked.TheVariants.{Written}
+use Rattle.octave.specs.declared.block.BlockError.{BlockError}
 use Rattle.octave.specs.Answer.{block_answer}
 use Rattle.octave.specs.Memory.{prepared}
 use Rattle.octave.specs.Block.{frames_of, block_checks, equalised}
@@ -30,14 +30,14 @@ use Rattle.history.proofs.Demands.{written_near}
 -- an accepted call answers the number of its frames
 pub accepted_length : (m : List ℤ) (c : Call) → is_accepted m c ≡ true → block_answer (called m c).result ≡ accepted (frames_of m c.input)
 accepted_length m c e =
-    ap (λ (o : Outcome Blocked (List ℤ × List ℤ)). block_answer o.result)
+    ap (λ (o : Outcome (Result ℕ BlockError) (List ℤ × List ℤ)). block_answer o.result)
     (unnumbered_ran m c.gains c.input c.before (eqb-true (number_in (block_answer (called m c).result)) 0 e)).is
 
 -- a refused call leaves the memory
 pub refused_memory : (m : List ℤ) (c : Call) → is_accepted m c ≡ false → after_call m c ≡ m
 refused_memory m c e =
     ap (λ (l : List ℤ × List ℤ). l.0)
-    (refused_keeps block_answer (block_checks m c.gains c.input c.before) (m, c.before) (equalised m c.gains c.input) (Written (frames_of m c.input))
+    (refused_keeps block_answer (block_checks m c.gains c.input c.before) (m, c.before) (equalised m c.gains c.input) (Ok (frames_of m c.input))
     (eqb-false (number_in (block_answer (called m c).result)) 0 e) refl)
 
 -- ---- any calls

@@ -10,6 +10,7 @@ use lib.Dec.{ltb}
 use lib.ListN.{length, get_or}
 use lib.IntN.{ℤ, pos, neg_ℤ, nat_abs, ◌-ℤ◌, ◌*ℤ◌}
 use lib.Signed.{◌<ℤ◌}
+use Rattle.std.specs.Prelude.{Ok}
 use Rattle.answers.specs.Answer.{number_in}
 use Rattle.answers.specs.Range.{within}
 use Rattle.answers.specs.Unit.{least_sample, most_sample, least_place, most_place, unity}
@@ -23,7 +24,6 @@ use Rattle.tree.specs.Prototype.{published}
 use Rattle.tree.specs.Signal.{back, signal_of, gain_of}
 use Rattle.tree.specs.Tree.{low_pass, level, delay, output}
 use Rattle.tree.specs.Exact.{common_scale, slack, farthest}
-use Rattle.octave.specs.declared.block.Blocked.TheVariants.{Written}
 use Rattle.octave.specs.Answer.{block_answer}
 use Rattle.octave.specs.Memory.{channels_in, prepared}
 use Rattle.octave.specs.Block.{frames_of, block_checks, equalised, block_of}
@@ -120,7 +120,7 @@ pub bad_side : (m gains input before : List ℤ) (s i : ℕ) → s < channels_in
     within least_sample most_sample (get_or (side_of (channels_in m) s input) i (pos 0)) ≡ false →
     (number_in (block_answer (block_of m gains input before).result) ≡ 0 → ⊥) × ((block_of m gains input before).lent ≡ (m, before))
 bad_side m gains input before s i below inside bad =
-    (refused, refused_keeps block_answer (block_checks m gains input before) (m, before) (equalised m gains input) (Written (frames_of m input)) refused refl)
+    (refused, refused_keeps block_answer (block_checks m gains input before) (m, before) (equalised m gains input) (Ok (frames_of m input)) refused refl)
   where
     refused : number_in (block_answer (block_of m gains input before).result) ≡ 0 → ⊥
     refused e =

@@ -7,12 +7,12 @@ use native.Mathlib.Omega.{arith}
 use lib.ListN.{length, get_or, drop, replicate, length-append, length-replicate}
 use lib.Seq.{ext_get_or, get_or-take, get_or-drop}
 use lib.IntN.{ℤ, pos}
+use Rattle.std.specs.Prelude.{Result, Ok}
 use Rattle.answers.specs.Answer.{accepted}
 use Rattle.answers.specs.Checks.{Outcome}
 use Rattle.frames.specs.Frames.{side, side_of, places_of}
 use Rattle.frames.proofs.Laws.{side_of_lem, side_of-append, woven-length, places_length}
-use Rattle.octave.specs.declared.block.Blocked.{Blocked}
-use Rattle.octave.specs.declared.block.Blocked.TheVariants.{Written}
+use Rattle.octave.specs.declared.block.BlockError.{BlockError}
 use Rattle.octave.specs.Answer.{block_answer}
 use Rattle.octave.specs.Memory.{side_places, channels_in, prepared}
 use Rattle.octave.specs.Block.{frames_of, ran_side, equalised}
@@ -27,7 +27,7 @@ use Rattle.history.proofs.WholeHistory.{played_accepted}
 
 -- what one side of an accepted call leaves
 record SideCalled (c s : ℕ) (m : List ℤ) (d : Call) : Type 0 where
-  pub is : called (side_memory s m) (side_call c s d) ≡ record { result = Written (frames_of m d.input); lent = (side_memory s (after_call m d), side_of c s (called m d).lent.1) }
+  pub is : called (side_memory s m) (side_call c s d) ≡ record { result = Ok (frames_of m d.input); lent = (side_memory s (after_call m d), side_of c s (called m d).lent.1) }
   pub frames : frames_of (side_memory s m) (side_of c s d.input) ≡ frames_of m d.input
   pub whole : length d.input ≡ c * frames_of m d.input
   pub written : length (called m d).lent.1 ≡ c * frames_of m d.input
@@ -40,11 +40,11 @@ side-called s m d below a =
     let c = channels_in m in
     let f = frames_of m input in
     let ran : RanIt m gains input d.before = accepted_ran m gains input d.before f a in
-    let lent : equalised m gains input ≡ (called m d).lent = sym (ap (λ (o : Outcome Blocked (List ℤ × List ℤ)). o.lent) ran.is) in
+    let lent : equalised m gains input ≡ (called m d).lent = sym (ap (λ (o : Outcome (Result ℕ BlockError) (List ℤ × List ℤ)). o.lent) ran.is) in
     record {
       is =
           side_block m gains input d.before ran s below ∙
-          ap (λ (l : List ℤ × List ℤ). record { result = Written f; lent = (side_memory s l.0, side_of c s l.1) }) lent;
+          ap (λ (l : List ℤ × List ℤ). record { result = Ok f; lent = (side_memory s l.0, side_of c s l.1) }) lent;
       frames = frames_same m gains input d.before ran s below;
       whole = whole m gains input d.before ran s below;
       written = ap (λ (l : List ℤ × List ℤ). length l.1) (sym lent) ∙ woven-length c f (λ t. outputs (λ _. gain_of gains) (ran_side m input t).aligned);
@@ -77,10 +77,10 @@ sides_played c s m (d ∷ cs) e below a =
     let out = (called m d).lent.1 in
     let m' = side_memory s m in
     let d' = side_call c s d in
-    let after : after_call m' d' ≡ side_memory s m1 = ap (λ (o : Outcome Blocked (List ℤ × List ℤ)). o.lent.0) here.is in
-    let outs : (called m' d').lent.1 ≡ side_of c s out = ap (λ (o : Outcome Blocked (List ℤ × List ℤ)). o.lent.1) here.is in
+    let after : after_call m' d' ≡ side_memory s m1 = ap (λ (o : Outcome (Result ℕ BlockError) (List ℤ × List ℤ)). o.lent.0) here.is in
+    let outs : (called m' d').lent.1 ≡ side_of c s out = ap (λ (o : Outcome (Result ℕ BlockError) (List ℤ × List ℤ)). o.lent.1) here.is in
     let answer : block_answer (called m' d').result ≡ accepted (frames_of m' d'.input) =
-    ap (λ (o : Outcome Blocked (List ℤ × List ℤ)). block_answer o.result) here.is ∙ ap accepted (sym here.frames) in
+    ap (λ (o : Outcome (Result ℕ BlockError) (List ℤ × List ℤ)). block_answer o.result) here.is ∙ ap accepted (sym here.frames) in
     record {
       accepted = (answer, subst (λ (k : List ℤ). AllAccepted k (side_calls c s cs)) (sym after) rest.accepted);
       output_is =

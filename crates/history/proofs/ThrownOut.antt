@@ -8,6 +8,7 @@ use lib.Dec.{lit≤}
 use lib.ListN.{get_or}
 use lib.IntN.{ℤ, pos, nat_abs, ◌-ℤ◌, ◌*ℤ◌}
 use lib.Signed.{le_z_yes}
+use Rattle.std.specs.Prelude.{Result, Ok}
 use Rattle.whole.specs.Sum.{sum}
 use Rattle.answers.specs.Unit.{unity}
 use Rattle.tree.specs.Prototype.{published}
@@ -21,8 +22,7 @@ use Rattle.answers.specs.First.{first_failing}
 use Rattle.ring.specs.Line.{tap, line_sum, low_value, late_value}
 use Rattle.lines.specs.Cascade.{step, run}
 use Rattle.frames.specs.Frames.{side, frame, woven, behind}
-use Rattle.octave.specs.declared.block.Blocked.{Blocked}
-use Rattle.octave.specs.declared.block.Blocked.TheVariants.{Written}
+use Rattle.octave.specs.declared.block.BlockError.{BlockError}
 use Rattle.octave.specs.Answer.{block_answer}
 use Rattle.octave.specs.Memory.{prepared}
 use Rattle.weighing.specs.Weighing.{band_sum, outputs}
@@ -38,9 +38,9 @@ high_alone = pos 0 ∷ pos unity ∷ []
 
 -- ---- refuse everything: a call without a fault is not refused
 
-pub refuse_everything : (r : Blocked) (l : List ℤ × List ℤ) → (number_in (block_answer r) ≡ 0 → ⊥) → Done (block_of (prepared 2 1) low_alone [] []) r l → ⊥
+pub refuse_everything : (r : Result ℕ BlockError) (l : List ℤ × List ℤ) → (number_in (block_answer r) ≡ 0 → ⊥) → Done (block_of (prepared 2 1) low_alone [] []) r l → ⊥
 unfolding decide all_hold first_failing run side woven frame behind
-refuse_everything r l n d = n (ap (λ (q : Blocked). number_in (block_answer q)) d.result_is)
+refuse_everything r l n d = n (ap (λ (q : Result ℕ BlockError). number_in (block_answer q)) d.result_is)
 
 -- ---- all zeros, or the delayed input for any gains: unequal gains tell them
 
@@ -78,7 +78,7 @@ delayed_input near =
 
 -- ---- touch nothing: the first output of 100,000 is 313, and not what the output block held
 
-pub touch_nothing : Done (block_of (prepared 2 1) low_alone (pos 100000 ∷ []) (pos 0 ∷ [])) (Written 1) (prepared 2 1, pos 0 ∷ []) → ⊥
+pub touch_nothing : Done (block_of (prepared 2 1) low_alone (pos 100000 ∷ []) (pos 0 ∷ [])) (Ok 1) (prepared 2 1, pos 0 ∷ []) → ⊥
 unfolding decide all_hold first_failing run step low_value late_value line_sum tap sum outputs band_sum side woven frame behind
 touch_nothing d = let h : ◌≡◌ {A = ℕ} 0 313 = ap (λ (l : List ℤ × List ℤ). nat_abs (get_or l.1 0 (pos 0))) d.lent_is in omega arith
 
@@ -88,16 +88,16 @@ touch_nothing d = let h : ◌≡◌ {A = ℕ} 0 313 = ap (λ (l : List ℤ × Li
 abbrev filtered : List ℤ
 filtered = (block_of (prepared 2 1) low_alone (pos 100000 ∷ []) (pos 0 ∷ [])).lent.0
 
-pub pass_through : (m : List ℤ) → Done (block_of filtered low_alone (pos 0 ∷ pos 0 ∷ []) (pos 0 ∷ pos 0 ∷ [])) (Written 2) (m, pos 0 ∷ pos 0 ∷ []) → ⊥
+pub pass_through : (m : List ℤ) → Done (block_of filtered low_alone (pos 0 ∷ pos 0 ∷ []) (pos 0 ∷ pos 0 ∷ [])) (Ok 2) (m, pos 0 ∷ pos 0 ∷ []) → ⊥
 unfolding decide all_hold first_failing run step low_value late_value line_sum tap sum outputs band_sum side woven frame behind
 pass_through m d = let h : ◌≡◌ {A = ℕ} 0 1338 = ap (λ (l : List ℤ × List ℤ). nat_abs (get_or l.1 1 (pos 0))) d.lent_is in omega arith
 
 -- ---- invent the number of frames written: it is that of the block, for all inputs
 
-pub invent_the_number : (memory gains input output : List ℤ) (r : Blocked) (l : List ℤ × List ℤ) (k : ℕ) → (k ≡ frames_of memory input → ⊥) → block_answer r ≡ accepted k →
+pub invent_the_number : (memory gains input output : List ℤ) (r : Result ℕ BlockError) (l : List ℤ × List ℤ) (k : ℕ) → (k ≡ frames_of memory input → ⊥) → block_answer r ≡ accepted k →
     Done (block_of memory gains input output) r l → ⊥
 invent_the_number memory gains input output r l k n a d =
     let ran = accepted_ran memory gains input output k (sym (ap block_answer d.result_is) ∙ a) in
     let e : accepted k ≡ accepted (frames_of memory input) =
-    sym a ∙ ap block_answer d.result_is ∙ ap (λ (o : Outcome Blocked (List ℤ × List ℤ)). block_answer o.result) ran.is in
+    sym a ∙ ap block_answer d.result_is ∙ ap (λ (o : Outcome (Result ℕ BlockError) (List ℤ × List ℤ)). block_answer o.result) ran.is in
     n cc

@@ -1,11 +1,11 @@
 -- Calls one after the other, from some memory on: rules 11.2 to 11.4.
-use Rattle.std.specs.Prelude.{◌≡◌, Bool, cond, List, [], ◌∷◌, ◌++◌, ℕ, zero, suc, ◌+◌, ◌-◌, ◌*◌, eqb, ltb, length, get_or, ℤ, pos}
+use Rattle.std.specs.Prelude.{◌≡◌, Bool, cond, List, [], ◌∷◌, ◌++◌, ℕ, zero, suc, ◌+◌, ◌-◌, ◌*◌, eqb, ltb, length, get_or, ℤ, pos, Result}
 use Rattle.answers.specs.Answer.{accepted, number_in}
 use Rattle.answers.specs.Checks.{Outcome}
 use Rattle.tree.specs.Prototype.{published}
 use Rattle.tree.specs.Signal.{signal_of, gain_of}
 use Rattle.tree.specs.Exact.{exact_output}
-use Rattle.octave.specs.declared.block.Blocked.{Blocked}
+use Rattle.octave.specs.declared.block.BlockError.{BlockError}
 use Rattle.octave.specs.Answer.{block_answer}
 use Rattle.octave.specs.Memory.{side_places, held_in, memory_of, bands_in, prepared}
 use Rattle.frames.specs.Frames.{side_of, places_of}
@@ -18,7 +18,7 @@ pub record Call : Type 0 where
   pub before : List ℤ
 
 -- rule 6.8, block: what a call does to a memory
-abbrev pub called : List ℤ → Call → Outcome Blocked (List ℤ × List ℤ)
+abbrev pub called : List ℤ → Call → Outcome (Result ℕ BlockError) (List ℤ × List ℤ)
 called m c = block_of m c.gains c.input c.before
 
 -- rules 6.4, 6.7: the memory after it

@@ -1,18 +1,21 @@
 -- The input as it is judged: what a refusal tells, and what is known where there is none. Assumes nothing.
-use mathlib.Core.Path.{◌≡◌, refl, ap}
+use mathlib.Core.Path.{◌≡◌, refl, ap, ◌∙◌}
 use mathlib.Core.Bool.{Bool, true, false, cond}
 use mathlib.Core.List.{List, [], ◌∷◌}
 use Prim.Native.Nat.{ℕ, ◌/◌, ◌%◌}
 use lib.Dec.{eqb, leb}
 use lib.ListN.{length}
 use lib.IntN.{ℤ}
-use Rattle.std.specs.Prelude.{Ok, Err}
+use Rattle.std.specs.Prelude.{Result, Ok, Err}
 use Rattle.answers.specs.Checks.{check, choose, decide, Done}
 use Rattle.answers.specs.Range.{first_outside, all_within}
 use Rattle.answers.specs.Unit.{least_sample, most_sample, block_limit}
 use Rattle.octave.specs.declared.input.InputError.{InputError}
 use Rattle.octave.specs.declared.input.InputError.TheVariants.{PartFrame, TooLong, Sample}
+use Rattle.octave.specs.Counts.{Counts}
+use Rattle.octave.specs.Memory.{channels_in}
 use Rattle.octave.specs.Input.{input_of}
+use Rattle.octave.specs.Helpers.{KeptCounts}
 
 -- an input that is not refused
 pub record Right (c : ℕ) (input : List ℤ) (frames : ℕ) : Type 0 where
@@ -58,3 +61,7 @@ input_right c input frames = by (eqb (length input % c) 0) (leb (length input / 
     by true false v p q r h = absurd cc
     by true true false p q r h = absurd cc
     by true true true p q r h = record { whole = p; short = q; samples = r; frames_are = cc }
+
+-- what it is judged as by the counts of a memory
+pub input_kept : {m : List ℤ} {k : Counts} → KeptCounts k m → (input : List ℤ) {r : Result ℕ InputError} → r ≡ input_of k.channels input → r ≡ input_of (channels_in m) input
+input_kept h input e = e ∙ ap (λ (x : Counts). input_of x.channels input) h.counts_are

@@ -120,6 +120,13 @@ accepted_is m bands channels e b c =
 pub counts_accepted : {m : List ℤ} {k : Counts} → KeptCounts k m → Accepted m k.bands k.channels
 counts_accepted {m} {k} h = accepted_is m k.bands k.channels h.kept (ap (λ (x : Counts). x.bands) h.counts_are) (ap (λ (x : Counts). x.channels) h.counts_are)
 
+pub counts_few : {m : List ℤ} {k : Counts} → KeptCounts k m → (2 ≤ k.bands) × (k.bands ≤ 10)
+counts_few h = bands_few (counts_accepted h)
+
+-- its band count, as a call told it
+pub bands_kept : {m : List ℤ} {k : Counts} {n : ℕ} → KeptCounts k m → n ≡ k.bands → n ≡ bands_in m
+bands_kept h e = e ∙ ap (λ (x : Counts). x.bands) h.counts_are
+
 pub accepted_count : (m : List ℤ) → accepts m ≡ true → count_allowed (held_in m).count ≡ true
 unfolding all_hold
 accepted_count m e =

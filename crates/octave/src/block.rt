@@ -48,17 +48,7 @@ fn equalise(memory: &mut [i32], gains: &[i32], input: &[i32], output: &mut [i32]
     requires { Judged counts memory.old gains.now input.now output.old }
     ensures { (memory.new, output.new) ≡ equalised memory.old gains.now input.now }
 {
-    let no_gains = [0i32; 0];
-    let mut nowhere = [0i32; 0];
-    pass(
-        memory,
-        gains,
-        &no_gains,
-        input,
-        output,
-        &mut nowhere,
-        counts,
-    );
+    pass(memory, gains, &[], input, output, &mut [], counts);
 }
 
 // Equalises a block of frames: output frame i answers input frame i. All is judged before anything is written.

@@ -7,6 +7,7 @@ use block_sides::run::run;
 
 // The samples through the lines from the position on, and the position afterwards; the output under `gains`, and in the same pass, where there are
 // other gains, a second one under these.
+// Each gains and their output are handed on as `run` takes them: a pair would only be taken apart again.
 pub fn pass(
     memory: &mut [i32],
     gains: &[i32],

@@ -1,5 +1,5 @@
 -- Each return has the checks that led there.
-use Rattle.std.proofs.Common.{◌≡◌, ℕ, ◌%◌, ◌∙◌, ap, length, List, ℤ, pos, arith}
+use Rattle.std.proofs.Common.{ℕ, ◌%◌, ap, length, pos, arith}
 use Rattle.std.specs.Prelude.{Result, Ok, Err}
 use Rattle.std.proofs.lemmas.Result.{err_from_is_err_and}
 use Rattle.answers.proofs.Laws.{refuses, goes_on}
@@ -10,20 +10,11 @@ use borrow.Author.Tests.{eqb-true}
 use Rattle.octave.specs.declared.memory.Fault.{Fault}
 use Rattle.octave.specs.declared.block.BlockError.{BlockError}
 use Rattle.octave.specs.declared.block.BlockError.TheVariants.{Memory}
-use Rattle.octave.specs.Counts.{Counts}
-use Rattle.octave.specs.Helpers.{KeptCounts}
-use Rattle.octave.specs.Memory.{bands_in, channels_in}
-use Rattle.octave.specs.Input.{input_of}
+use Rattle.octave.specs.Memory.{channels_in}
 use Rattle.octave.specs.Block.{frames_of, equalised, of_input}
-use Rattle.octave.proofs.Memories.{kept_wrong, kept_right}
-use Rattle.octave.proofs.Inputs.{input_refused, input_accepted, input_right}
+use Rattle.octave.proofs.Memories.{kept_wrong, kept_right, bands_kept}
+use Rattle.octave.proofs.Inputs.{input_refused, input_accepted, input_right, input_kept}
 use Rattle.octave.proofs.block.block.Goals as goal
-
-bands_are : {m : List ℤ} {k : Counts} {n : ℕ} → KeptCounts k m → n ≡ k.bands → n ≡ bands_in m
-bands_are h e = e ∙ ap (λ (x : Counts). x.bands) h.counts_are
-
-of_counts : {m : List ℤ} {k : Counts} → KeptCounts k m → (input : List ℤ) → input_of k.channels input ≡ input_of (channels_in m) input
-of_counts h input = ap (λ (x : Counts). input_of x.channels input) h.counts_are
 
 abbrev faulty : Fault → Result ℕ BlockError
 faulty f = Err (Memory f)
@@ -42,19 +33,19 @@ returns-in_err-counts c =
 pub returns-then-gains-bands : goal.returns-then-gains-bands
 returns-then-gains-bands c =
     let k = kept_right c.args.memory.now c.in_ok-counts.counts c.in_ok-counts.ensures in
-    let b = bands_are k c.bands.ensures in
+    let b = bands_kept k c.bands.ensures in
     search judging depth 12
 
 pub returns-then-first_outside-gains : goal.returns-then-first_outside-gains
 returns-then-first_outside-gains c =
     let k = kept_right c.args.memory.now c.in_ok-counts.counts c.in_ok-counts.ensures in
-    let b = bands_are k c.bands.ensures in
+    let b = bands_kept k c.bands.ensures in
     search judging depth 12
 
 pub returns-then-output-input : goal.returns-then-output-input
 returns-then-output-input c =
     let k = kept_right c.args.memory.now c.in_ok-counts.counts c.in_ok-counts.ensures in
-    let b = bands_are k c.bands.ensures in
+    let b = bands_kept k c.bands.ensures in
     search judging depth 12
 
 pub returns-in_err-frames : goal.returns-in_err-frames
@@ -62,9 +53,9 @@ returns-in_err-frames c =
     let m = c.args.memory.now in
     let input = c.args.input.now in
     let k = kept_right m c.in_ok-counts.counts c.in_ok-counts.ensures in
-    let b = bands_are k c.bands.ensures in
+    let b = bands_kept k c.bands.ensures in
     let p = err_from_is_err_and c.from_residual-in_err-frames.result c.from_residual-in_err-frames.ensures.1 in
-    let rest = input_refused (m, c.args.output.now) (equalised m c.args.gains.now input) (written (frames_of m input)) (λ e. Err (of_input e)) (channels_in m) input _ (c.in_err-frames.ensures ∙ of_counts k input) in
+    let rest = input_refused (m, c.args.output.now) (equalised m c.args.gains.now input) (written (frames_of m input)) (λ e. Err (of_input e)) (channels_in m) input _ (input_kept k input c.in_err-frames.ensures) in
     rw (p.1, p.2) (search (goes_on, branches) depth 12)
 
 pub equalise-requires : goal.equalise-requires
@@ -86,8 +77,8 @@ returns c =
     let m = c.args.memory.now in
     let input = c.args.input.now in
     let k = kept_right m c.in_ok-counts.counts c.in_ok-counts.ensures in
-    let b = bands_are k c.bands.ensures in
-    let right = input_right (channels_in m) input c.in_ok-frames.frames (c.in_ok-frames.ensures ∙ of_counts k input) in
+    let b = bands_kept k c.bands.ensures in
+    let right = input_right (channels_in m) input c.in_ok-frames.frames (input_kept k input c.in_ok-frames.ensures) in
     let rest =
     input_accepted (m, c.args.output.now) (equalised m c.args.gains.now input) (written (frames_of m input)) (λ e. Err (of_input e)) (channels_in m) input right (ap written right.frames_are) c.equalise.ensures in
     search (goes_on, branches) depth 12

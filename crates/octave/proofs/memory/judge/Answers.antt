@@ -1,5 +1,5 @@
 -- Each return has the tests that led there.
-use Rattle.std.proofs.Common.{◌≡◌, ◌∙◌, true, false, ap, ap₂, ℕ, ℤ, List, length, arith, rules, eqb, pos, nat_abs, le-ltb, eq-eqb, to_z-of_z, w32, get_or}
+use Rattle.std.proofs.Common.{◌≡◌, ◌∙◌, true, false, ap, ap₂, ℕ, ℤ, List, length, arith, eqb, pos, nat_abs, le-ltb, eq-eqb, to_z-of_z, w32, get_or}
 use Rattle.std.specs.Prelude.{Result, Ok}
 use Rattle.std.proofs.lemmas.Result.{err_from_is_err_and}
 use lib.Signed.{lt_z}
@@ -7,6 +7,7 @@ use mir.Val.{SFits, to_z, of_z}
 use borrow.Author.Rules.{sfits_of}
 use Rattle.answers.specs.Judging.{here, later}
 use Rattle.answers.proofs.Branches.{other}
+use Rattle.octave.specs.declared.memory.CountError.{CountError}
 use Rattle.octave.specs.declared.memory.Fault.{Fault}
 use Rattle.octave.specs.declared.memory.Fault.TheVariants.{CountWrong, LengthWrong, PositionOutside}
 use Rattle.octave.specs.Counts.{Counts}
@@ -18,8 +19,9 @@ abbrev holds : Counts → Result Counts Fault
 holds k = Ok k
 
 -- the counts, as they are read
-read : {b n : ℤ} → SFits w32 b → SFits w32 n → counts_of (to_z w32 (of_z w32 b)) (to_z w32 (of_z w32 n)) ≡ counts_of b n
-read f g = ap₂ counts_of (to_z-of_z f) (to_z-of_z g)
+read : (m : List ℤ) {r : Result Counts CountError} → r ≡ counts_of (to_z w32 (of_z w32 (get_or m 0 (pos 0)))) (to_z w32 (of_z w32 (get_or m 1 (pos 0)))) →
+    SFits w32 (get_or m 0 (pos 0)) → SFits w32 (get_or m 1 (pos 0)) → r ≡ counts_of (held_in m).count (held_in m).channels
+read m e f g = e ∙ ap₂ counts_of (to_z-of_z f) (to_z-of_z g)
 
 -- the length that a memory of these counts has
 size : (m : List ℤ) {k : Counts} {n : ℕ} → n ≡ memory_length k.bands k.channels → CountsAre (held_in m).count (held_in m).channels k → n ≡ memory_length (bands_in m) (channels_in m)
@@ -31,17 +33,13 @@ returns-then-memory-lt-POSITION c = wrong_is c.args.memory.now CountWrong (too_s
 pub returns-in_err-counts : goal.returns-in_err-counts
 returns-in_err-counts c =
     let m = c.args.memory.now in
-    let b : SFits w32 (get_or m 0 (pos 0)) = search rules in
-    let n : SFits w32 (get_or m 1 (pos 0)) = search rules in
     let p = err_from_is_err_and c.from_residual.result c.from_residual.ensures.1 in
-    rw (p.1, p.2) (wrong_is m CountWrong (counts_first m _ (c.in_err-counts.ensures ∙ read b n)))
+    rw (p.1, p.2) (wrong_is m CountWrong (counts_first m _ (read m c.in_err-counts.ensures (sfits_of (omega arith)) (sfits_of (omega arith)))))
 
 pub returns-then-memory-memory_length : goal.returns-then-memory-memory_length
 returns-then-memory-memory_length c =
     let m = c.args.memory.now in
-    let b : SFits w32 (get_or m 0 (pos 0)) = search rules in
-    let n : SFits w32 (get_or m 1 (pos 0)) = search rules in
-    let k = counts_are (held_in m).count (held_in m).channels c.in_ok-counts.counts (c.in_ok-counts.ensures ∙ read b n) in
+    let k = counts_are (held_in m).count (held_in m).channels c.in_ok-counts.counts (read m c.in_ok-counts.ensures (sfits_of (omega arith)) (sfits_of (omega arith))) in
     let l : eqb (length m) (memory_length (bands_in m) (channels_in m)) ≡ false =
     other (length m) (memory_length (bands_in m) (channels_in m)) c.memory_length.result (size m c.memory_length.ensures k) c.if-memory-memory_length.true in
     wrong_is m LengthWrong (later k.bands_allowed (later k.channels_allowed_lem (here l)))
@@ -49,10 +47,8 @@ returns-then-memory-memory_length c =
 pub returns-then-at-lt0 : goal.returns-then-at-lt0
 returns-then-at-lt0 c =
     let m = c.args.memory.now in
-    let b : SFits w32 (get_or m 0 (pos 0)) = search rules in
-    let n : SFits w32 (get_or m 1 (pos 0)) = search rules in
     let at : SFits w32 (held_in m).position = sfits_of (omega arith) in
-    let k = counts_are (held_in m).count (held_in m).channels c.in_ok-counts.counts (c.in_ok-counts.ensures ∙ read b n) in
+    let k = counts_are (held_in m).count (held_in m).channels c.in_ok-counts.counts (read m c.in_ok-counts.ensures (sfits_of (omega arith)) (sfits_of (omega arith))) in
     let long : eqb (length m) (memory_length (bands_in m) (channels_in m)) ≡ true =
     eq-eqb (length m) (memory_length (bands_in m) (channels_in m)) (c.if-memory-memory_length.false ∙ size m c.memory_length.ensures k) in
     let outside : position_within (line_length (bands_in m)) (held_in m).position ≡ false = rw (rw (to_z-of_z at) at c.if-at-lt0.true) in
@@ -61,10 +57,8 @@ returns-then-at-lt0 c =
 pub returns-then-line_length-at : goal.returns-then-line_length-at
 returns-then-line_length-at c =
     let m = c.args.memory.now in
-    let b : SFits w32 (get_or m 0 (pos 0)) = search rules in
-    let n : SFits w32 (get_or m 1 (pos 0)) = search rules in
     let at : SFits w32 (held_in m).position = sfits_of (omega arith) in
-    let k = counts_are (held_in m).count (held_in m).channels c.in_ok-counts.counts (c.in_ok-counts.ensures ∙ read b n) in
+    let k = counts_are (held_in m).count (held_in m).channels c.in_ok-counts.counts (read m c.in_ok-counts.ensures (sfits_of (omega arith)) (sfits_of (omega arith))) in
     let long : eqb (length m) (memory_length (bands_in m) (channels_in m)) ≡ true =
     eq-eqb (length m) (memory_length (bands_in m) (channels_in m)) (c.if-memory-memory_length.false ∙ size m c.memory_length.ensures k) in
     let not_below : lt_z (held_in m).position (pos 0) ≡ false = rw (to_z-of_z at) at c.if-at-lt0.false in
@@ -76,10 +70,8 @@ returns-then-line_length-at c =
 pub returns : goal.returns
 returns c =
     let m = c.args.memory.now in
-    let b : SFits w32 (get_or m 0 (pos 0)) = search rules in
-    let n : SFits w32 (get_or m 1 (pos 0)) = search rules in
     let at : SFits w32 (held_in m).position = sfits_of (omega arith) in
-    let k = counts_are (held_in m).count (held_in m).channels c.in_ok-counts.counts (c.in_ok-counts.ensures ∙ read b n) in
+    let k = counts_are (held_in m).count (held_in m).channels c.in_ok-counts.counts (read m c.in_ok-counts.ensures (sfits_of (omega arith)) (sfits_of (omega arith))) in
     let not_below : lt_z (held_in m).position (pos 0) ≡ false = rw (to_z-of_z at) at c.if-at-lt0.false in
     let inside = rw (to_z-of_z at, c.line_length.ensures, k.counts_are) at c.if-line_length-at.false in
     ap holds k.counts_are ∙
