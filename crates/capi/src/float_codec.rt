@@ -14,7 +14,7 @@ use floats::{FloatsError, OutOfRange};
 use parts::float_codec::floated;
 
 // A refusal's place is below this, 2 ^ 54.
-const PLACES: usize = 18014398509481984;
+const PLACES: usize = 1 << 54;
 
 #[unsafe(no_mangle)]
 pub extern "C" fn oeq_sample_from_float(value: f32) -> i64
