@@ -12,7 +12,7 @@ fn refusal<E: Numbered>(error: E) -> i64
     ensures { result ≡ encode (refused (E.refusal error).number (E.refusal error).place) }
 {
     let told = error.refused();
-    i64::MIN + (told.number as usize + 256 * told.place) as i64
+    i64::MIN + (usize::from(told.number) + 256 * told.place) as i64
 }
 
 // An answer that is a count: a length, a delay, a number of samples or of bytes.

@@ -9,6 +9,11 @@ use printing::told;
 use std::io;
 use std::io::Read;
 
+// The counts that a call asks for: bands, and channels.
+fn counts(cases: &mut impl Read) -> (i32, i32) {
+    (place(word(cases)), place(word(cases)))
+}
+
 // The first so many places.
 fn first<'a>(cases: &mut impl Read, s: &'a mut [i32]) -> &'a mut [i32] {
     let n = front(word(cases) as usize, s);
@@ -16,8 +21,7 @@ fn first<'a>(cases: &mut impl Read, s: &'a mut [i32]) -> &'a mut [i32] {
 }
 
 pub fn length(rt: &impl Print, cases: &mut impl Read) -> io::Result<()> {
-    let bands = place(word(cases));
-    let channels = place(word(cases));
+    let (bands, channels) = counts(cases);
     print!(rt; "length {bands} {channels}")?;
     told(rt, answer(memory_length(bands, channels)))?;
     println!(rt)
@@ -30,8 +34,7 @@ pub fn prepared(
     lists: &mut Lists,
     before: &Lists,
 ) -> io::Result<()> {
-    let bands = place(word(cases));
-    let channels = place(word(cases));
+    let (bands, channels) = counts(cases);
     let memory = first(cases, &mut lists.memory);
     print!(rt; "prepare {bands} {channels}")?;
     told(rt, answer(prepare(bands, channels, memory)))?;
