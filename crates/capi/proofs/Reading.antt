@@ -9,7 +9,8 @@ use Rattle.answers.specs.Answer.{Answer, accepted, refused}
 use Rattle.answers.specs.Unit.{front_length}
 use Rattle.samples.specs.Channels.{count_of}
 use Rattle.samples.specs.Format.{bits_of}
-use Rattle.wave.specs.Walk.{Found, read_of}
+use Rattle.wave.specs.Walk.{read_of}
+use Rattle.wave.specs.declared.found.Found.{Found}
 use Rattle.wave.proofs.Answers.{Told, accepts, refuses, read_told, accepted_start}
 use Rattle.parts.specs.Found.{of_found}
 use Rattle.capi.specs.Found.{found_after}

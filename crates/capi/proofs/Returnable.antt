@@ -9,42 +9,40 @@ use lib.Dec.{eqb, leb, ltb, lit<}
 use lib.ListN.{length}
 use lib.IntN.{ℤ, pos, negsuc, nat_abs, ◌-ℤ◌, ◌*ℤ◌}
 use lib.Signed.{lt_z, ◌≤ℤ◌}
+use Rattle.std.specs.Prelude.{Result, Ok, Err}
 use Rattle.answers.specs.Checks.{check}
 use Rattle.answers.specs.Range.{first_outside, all_within}
 use Rattle.answers.specs.Unit.{least_sample, most_sample, block_limit}
 use Rattle.answers.proofs.Laws.{every, chosen_every, eaching}
 use Rattle.whole.proofs.Signed.{down, Diff, lit, ◌⊖◌, ◌⊗◌, about, read_le}
-use Rattle.octave.specs.Answer.{fault_number, length_answer, prepared_answer, block_answer}
+use Rattle.octave.specs.Answer.{fault_refusal, length_answer, prepared_answer, block_answer}
 use Rattle.octave.specs.Block.{frames_of, block_checks, equalised, block_of}
 use Rattle.octave.specs.Memory.{accepts, channels_in, memory_length, count_allowed, channels_allowed, memory_length_of, prepared, prepare_checks, prepare_of}
-use Rattle.octave.specs.declared.block.Blocked.{Blocked}
-use Rattle.octave.specs.declared.block.Blocked.TheVariants.{Written}
+use Rattle.octave.specs.declared.block.BlockError.{BlockError}
+use Rattle.octave.specs.declared.memory.CountError.{CountError}
+use Rattle.octave.specs.declared.memory.CountError.TheVariants.{BandCount, ChannelCount}
 use Rattle.octave.specs.declared.memory.Fault.{Fault}
-use Rattle.octave.specs.declared.memory.Length.{Length}
-use Rattle.octave.specs.declared.memory.Length.TheVariants.{Places, BandCount, ChannelCount}
-use Rattle.octave.specs.declared.memory.Prepared.{Prepared}
-use Rattle.octave.specs.declared.memory.Prepared.TheVariants.{Delay}
+use Rattle.octave.specs.declared.memory.PrepareError.{PrepareError}
 use Rattle.octave.proofs.Layouts.{line_small, memory_small}
 use Rattle.octave.proofs.Refusals.{fault_number_lem, bad_place}
 use Rattle.octave.proofs.Ranges.{bands_of, channels_of_lem}
 use Rattle.crossover.specs.Answer.{cross_answer}
 use Rattle.crossover.specs.Cross.{cross_checks, crossed, cross_of}
-use Rattle.crossover.specs.declared.cross.Crossed as crossing
+use Rattle.crossover.specs.declared.cross.CrossError.{CrossError}
 use Rattle.gain.specs.Answer.{answer_of}
 use Rattle.gain.specs.Promise.{command_gain}
 use Rattle.gain.specs.declared.Command.{Command}
-use Rattle.gain.specs.declared.Gained.{Gained}
-use Rattle.gain.specs.declared.Gained.TheVariants.{Gain, NotHalfDecibels, NotFactor}
+use Rattle.gain.specs.declared.GainError.{GainError}
+use Rattle.gain.specs.declared.GainError.TheVariants.{NotHalfDecibels, NotFactor}
 use Rattle.gain.proofs.Answers.{within}
 use Rattle.fields.specs.Bytes.{lowest, number_in, row}
 use Rattle.fields.proofs.ByTest.{cond-case}
 use Rattle.wave_writer.specs.Header.{header, write_checks, write_of, write_answer}
 use Rattle.samples.specs.Sample.{code_of, number_of, sample_in, from_bytes, put_checks, to_bytes, sample_answer, put_answer}
 use Rattle.samples.specs.declared.format.Format.TheVariants.{Bits16, Bits24}
-use Rattle.samples.specs.declared.single.Put.{Put}
-use Rattle.samples.specs.declared.single.Put.TheVariants.{Done}
-use Rattle.samples.specs.declared.single.Sample.{Sample}
-use Rattle.wave_writer.specs.declared.writer.Written as writer
+use Rattle.samples.specs.declared.single.StoreError.{StoreError}
+use Rattle.samples.specs.declared.single.WrongLength.{WrongLength}
+use Rattle.wave_writer.specs.declared.writer.WriteError.{WriteError}
 use Rattle.encoding.specs.Encode.{halfway}
 use Rattle.encoding.specs.Parts.{Refusal, Returnable, Counted}
 
@@ -60,7 +58,7 @@ delay_small bands t = omega (arith, line_small (nat_abs bands) (bands_of bands t
 frames_few : (memory input : List ℤ) → leb (frames_of memory input) block_limit ≡ true → frames_of memory input < 2 ^ 63
 frames_few memory input t = omega (arith, leb-true (frames_of memory input) block_limit t)
 
-fault_returned : (f : Fault) → Refusal (fault_number f) 0
+fault_returned : (f : Fault) → Refusal (fault_refusal f).number 0
 fault_returned f = let n = fault_number_lem f in (omega (arith, n.0), omega (arith, n.1), omega arith)
 
 sample_returned : (memory input : List ℤ) → accepts memory ≡ true → eqb (length input % channels_in memory) 0 ≡ true → leb (frames_of memory input) block_limit ≡ true →
@@ -69,22 +67,22 @@ sample_returned memory input a w f b = (omega arith, omega arith, omega (arith, 
 
 pub length_counted : (bands channels : ℤ) → Counted (length_answer (memory_length_of bands channels))
 length_counted bands channels =
-    chosen_every (Places (memory_length (nat_abs bands) (nat_abs channels))) (λ (r : Length). Counted (length_answer r))
-    (check (count_allowed bands) BandCount ∷ check (channels_allowed channels) ChannelCount ∷ []) (search (eaching, places_small) depth 12)
+    chosen_every (Ok (memory_length (nat_abs bands) (nat_abs channels))) (λ (r : Result ℕ CountError). Counted (length_answer r))
+    (check (count_allowed bands) (Err BandCount) ∷ check (channels_allowed channels) (Err ChannelCount) ∷ []) (search (eaching, places_small) depth 12)
 
 pub prepare_counted : (bands channels : ℤ) (memory : List ℤ) → Counted (prepared_answer (prepare_of bands channels memory).result)
 prepare_counted bands channels memory =
-    every memory (prepared (nat_abs bands) (nat_abs channels)) (Delay (9 * (2 ^ (nat_abs bands - 1) - 1))) (λ (r : Prepared). Counted (prepared_answer r))
+    every memory (prepared (nat_abs bands) (nat_abs channels)) (Ok (9 * (2 ^ (nat_abs bands - 1) - 1))) (λ (r : Result ℕ PrepareError). Counted (prepared_answer r))
     (prepare_checks bands channels memory) (search (eaching, delay_small) depth 12)
 
 pub block_counted : (memory gains input output : List ℤ) → Counted (block_answer (block_of memory gains input output).result)
 block_counted memory gains input output =
-    every (memory, output) (equalised memory gains input) (Written (frames_of memory input)) (λ (r : Blocked). Counted (block_answer r))
+    every (memory, output) (equalised memory gains input) (Ok (frames_of memory input)) (λ (r : Result ℕ BlockError). Counted (block_answer r))
     (block_checks memory gains input output) (search (eaching, fault_returned, sample_returned, frames_few) depth 20)
 
 pub cross_counted : (memory gains : List ℤ) (split : ℤ) (input low high : List ℤ) → Counted (cross_answer (cross_of memory gains split input low high).result)
 cross_counted memory gains split input low high =
-    every (memory, low, high) (crossed memory gains (nat_abs split) input) (crossing.TheVariants.Written (frames_of memory input)) (λ (r : crossing.Crossed). Counted (cross_answer r))
+    every (memory, low, high) (crossed memory gains (nat_abs split) input) (Ok (frames_of memory input)) (λ (r : Result ℕ CrossError). Counted (cross_answer r))
     (cross_checks memory gains split input low high) (search (eaching, fault_returned, sample_returned, frames_few) depth 24)
 
 -- ---- the header's writer and the codec
@@ -92,13 +90,13 @@ cross_counted memory gains split input low high =
 pub write_counted : (buffer : List ℕ) (rate size : ℕ) (channels : ℤ) → Counted (write_answer (write_of buffer rate size channels).result)
 unfolding write_of
 write_counted buffer rate size channels =
-    every buffer (header rate size (nat_abs channels)) (writer.TheVariants.Header 44) (λ (r : writer.Written). Counted (write_answer r)) (write_checks buffer rate size channels)
+    every buffer (header rate size (nat_abs channels)) (Ok 44) (λ (r : Result ℕ WriteError). Counted (write_answer r)) (write_checks buffer rate size channels)
     (search eaching depth 12)
 
 pub put_counted : (z : ℤ) (buffer : List ℕ) → Counted (put_answer (to_bytes z buffer).result)
 unfolding to_bytes
 put_counted z buffer =
-    every buffer (row lowest 3 (code_of z)) (Done 3) (λ (r : Put). Counted (put_answer r)) (put_checks z buffer) (search eaching depth 12)
+    every buffer (row lowest 3 (code_of z)) (Ok 3) (λ (r : Result ℕ StoreError). Counted (put_answer r)) (put_checks z buffer) (search eaching depth 12)
 
 -- a number that is not far below zero is no refusal's code
 not_far : (x : Diff) → x.n ≤ 2 ^ 62 + x.p → lt_z x.z halfway ≡ false
@@ -128,7 +126,7 @@ sample_returnable s =
     cond-case P _ _ (eqb (length s) 2) (λ _. near_16 s)
     (λ _. cond-case P _ _ (eqb (length s) 3) (λ _. near_24 s) (λ _. search lit<))
   where
-    P : Sample → Type 0
+    P : Result ℤ WrongLength → Type 0
     P r = Returnable (sample_answer r)
 
 -- ---- the gain commands
@@ -136,8 +134,8 @@ sample_returnable s =
 pub gain_returnable : (c : Command) → Returnable (answer_of (command_gain c))
 gain_returnable c = by (command_gain c) (within c)
   where
-    by : (r : Gained) → ((g : ℤ) → r ≡ Gain g → (pos 0 ≤ℤ g) × (g ≤ℤ pos 16384)) → Returnable (answer_of r)
-    by (Gain (pos n)) h = refl
-    by (Gain (negsuc n)) h = absurd (omega (arith, read_le (pos 0) (negsuc n) (h (negsuc n) refl).0))
-    by NotHalfDecibels h = search lit<
-    by NotFactor h = search lit<
+    by : (r : Result ℤ GainError) → ((g : ℤ) → r ≡ Ok g → (pos 0 ≤ℤ g) × (g ≤ℤ pos 16384)) → Returnable (answer_of r)
+    by (Ok (pos n)) h = refl
+    by (Ok (negsuc n)) h = absurd (omega (arith, read_le (pos 0) (negsuc n) (h (negsuc n) refl).0))
+    by (Err NotHalfDecibels) h = search lit<
+    by (Err NotFactor) h = search lit<

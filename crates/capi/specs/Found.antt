@@ -3,7 +3,7 @@ use Rattle.std.specs.Prelude.{List, ℕ, set}
 use Rattle.answers.specs.Answer.{Answer, accepted, refused}
 use Rattle.samples.specs.Channels.{count_of}
 use Rattle.samples.specs.Format.{bits_of}
-use Rattle.wave.specs.Walk.{Found}
+use Rattle.wave.specs.declared.found.Found.{Found}
 
 -- rule 12.7: the places afterwards: each of the five is set, and a refusal leaves them as they were
 abbrev pub found_after : Answer Found → List ℕ → List ℕ

@@ -5,18 +5,17 @@ ghost use Rattle.encoding.specs.Answers.{of_count, Returned};
 ghost use Rattle.encoding.specs.Encode.{encode};
 
 use encoding::code::{count, signed};
-use parts::codec::{put_parts, sample_parts};
 
 #[unsafe(no_mangle)]
 pub extern "C" fn oeq_sample_from_bytes(bytes: &[u8]) -> i64
     ensures { result ≡ encode (sample_answer (from_bytes bytes.now)) }
 {
-    signed(sample_parts(samples::sample_from_bytes(bytes)))
+    signed(samples::sample_from_bytes(bytes))
 }
 
 #[unsafe(no_mangle)]
 pub extern "C" fn oeq_sample_to_bytes(sample: i32, buffer: &mut [u8]) -> i64
     ensures { Returned (λ a. of_count (put_answer a)) (to_bytes sample buffer.old) result buffer.new }
 {
-    count(put_parts(samples::sample_to_bytes(sample, buffer)))
+    count(samples::sample_to_bytes(sample, buffer))
 }

@@ -9,20 +9,19 @@ ghost use Rattle.encoding.specs.Encode.{encode};
 use encoding::code::count;
 use octave::block::block;
 use octave::memory::{memory_length, prepare};
-use parts::equaliser::{block_parts, length_parts, prepared_parts};
 
 #[unsafe(no_mangle)]
 pub extern "C" fn oeq_memory_length(bands: i32, channels: i32) -> i64
     ensures { result ≡ encode (of_count (length_answer (memory_length_of bands channels))) }
 {
-    count(length_parts(memory_length(bands, channels)))
+    count(memory_length(bands, channels))
 }
 
 #[unsafe(no_mangle)]
 pub extern "C" fn oeq_prepare(bands: i32, channels: i32, memory: &mut [i32]) -> i64
     ensures { Returned (λ a. of_count (prepared_answer a)) (prepare_of bands channels memory.old) result memory.new }
 {
-    count(prepared_parts(prepare(bands, channels, memory)))
+    count(prepare(bands, channels, memory))
 }
 
 #[unsafe(no_mangle)]
@@ -34,5 +33,5 @@ pub extern "C" fn oeq_block(
 ) -> i64
     ensures { Returned (λ a. of_count (block_answer a)) (block_of memory.old gains.now input.now output.old) result (memory.new, output.new) }
 {
-    count(block_parts(block(memory, gains, input, output)))
+    count(block(memory, gains, input, output))
 }

@@ -10,24 +10,24 @@ ghost use Rattle.capi.specs.FloatBlock.{floats_in_c};
 ghost use Rattle.capi.specs.Floated.{float_after};
 
 use encoding::code::{count, signed};
-use floats::{FloatBlock, Floated};
-use parts::float_codec::{float_block_parts, float_sample_parts, floated_parts};
+use floats::{FloatsError, OutOfRange};
+use parts::float_codec::floated;
 
 // A refusal's place is below this, 2 ^ 54.
-const PLACES: usize = 18014398509481984;
+const PLACES: usize = 1 << 54;
 
 #[unsafe(no_mangle)]
 pub extern "C" fn oeq_sample_from_float(value: f32) -> i64
     ensures { result ≡ encode (float_answer (float_sample value)) }
 {
-    signed(float_sample_parts(floats::sample_from_float(value)))
+    signed(floats::sample_from_float(value))
 }
 
 // The float goes to the place; a refusal stores nothing.
-fn store_float(answer: Floated, value: &mut f32)
+fn store_float(answer: Result<f32, OutOfRange>, value: &mut f32)
     ensures { value.new ≡ float_after (floated_answer answer) value.old }
 {
-    if let Floated::Is(x) = answer {
+    if let Ok(x) = answer {
         *value = x;
     }
 }
@@ -39,15 +39,15 @@ pub extern "C" fn oeq_sample_to_float(sample: i32, value: &mut f32) -> i64
 {
     let answer = floats::sample_to_float(sample);
     store_float(answer, value);
-    count(floated_parts(answer))
+    count(floated(answer))
 }
 
 // The library's call, but for so many floats that no place of a bad one could be told.
-fn placed(values: &[f32], samples: &mut [i32]) -> FloatBlock
+fn placed(values: &[f32], samples: &mut [i32]) -> Result<usize, FloatsError>
     ensures { Done (floats_in_c values.now samples.old) result samples.new }
 {
     if PLACES <= values.len() {
-        return FloatBlock::WrongLength;
+        return Err(FloatsError::WrongLength);
     }
     floats::samples_from_floats(values, samples)
 }
@@ -56,5 +56,5 @@ fn placed(values: &[f32], samples: &mut [i32]) -> FloatBlock
 pub extern "C" fn oeq_samples_from_floats(values: &[f32], samples: &mut [i32]) -> i64
     ensures { Returned (λ a. of_count (float_block_answer a)) (floats_in_c values.now samples.old) result samples.new }
 {
-    count(float_block_parts(placed(values, samples)))
+    count(placed(values, samples))
 }

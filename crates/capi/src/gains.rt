@@ -7,12 +7,11 @@ ghost use Rattle.encoding.specs.Encode.{encode};
 
 use encoding::code::signed;
 use gain::Command;
-use parts::gains::gain_parts;
 
 fn gain_code(command: Command) -> i64
     ensures { result ≡ encode (answer_of (command_gain command)) }
 {
-    signed(gain_parts(gain::gain(command)))
+    signed(gain::gain(command))
 }
 
 #[unsafe(no_mangle)]

@@ -5,7 +5,6 @@ ghost use Rattle.encoding.specs.Answers.{of_count, Returned};
 
 use crossover::cross::cross;
 use encoding::code::count;
-use parts::two_feeds::crossed_parts;
 
 #[unsafe(no_mangle)]
 pub extern "C" fn oeq_crossover(
@@ -18,5 +17,5 @@ pub extern "C" fn oeq_crossover(
 ) -> i64
     ensures { Returned (λ a. of_count (cross_answer a)) (cross_of memory.old gains.now split input.now bass.old horn.old) result (memory.new, bass.new, horn.new) }
 {
-    count(crossed_parts(cross(memory, gains, split, input, bass, horn)))
+    count(cross(memory, gains, split, input, bass, horn))
 }

@@ -14,28 +14,23 @@ struct Rule {
     step: u32,
 }
 
-// The number after x: the generator's, or the next in counting.
-fn next(drawn: bool, x: u64) -> u64 {
-    let n = x % 2147483648;
-    if drawn {
-        (n * 1103515245 + 12345) % 2147483648
-    } else {
-        (n + 1) % 2147483648
+impl Rule {
+    fn value(self, x: u64) -> i32
+        ensures { result ≡ pos ((self.base + x / (self.divisor + 1) % (self.span + 1) * self.step) % 4294967296) -ℤ pos 2147483648 }
+    {
+        let part = x / (u64::from(self.divisor) + 1) % (u64::from(self.span) + 1);
+        place(((u64::from(self.base) + part * u64::from(self.step)) % 4294967296) as u32)
     }
 }
 
-fn value(rule: Rule, x: u64) -> i32
-    ensures { result ≡ pos ((rule.base + x / (rule.divisor + 1) % (rule.span + 1) * rule.step) % 4294967296) -ℤ pos 2147483648 }
+// Each number is made of the one before it.
+fn each<F: Fn(u64) -> u64>(places: &mut [i32], rule: Rule, before: u64, next: F)
+    requires { F.IsAlwaysCallable next }
 {
-    let part = x / (rule.divisor as u64 + 1) % (rule.span as u64 + 1);
-    place(((rule.base as u64 + part * rule.step as u64) % 4294967296) as u32)
-}
-
-fn each(s: &mut [i32], from: usize, drawn: bool, before: u64, rule: Rule) {
     let mut x = before;
-    for i in from..s.len() {
-        x = next(drawn, x);
-        s[i] = value(rule, x);
+    for z in places {
+        x = next(x);
+        *z = rule.value(x);
     }
 }
 
@@ -44,12 +39,23 @@ pub fn fill(cases: &mut impl Read, s: &mut [i32]) {
     let from = word(cases) as usize;
     let end = front(word(cases) as usize, s);
     let drawn = word(cases) == 1;
-    let before = word(cases) as u64;
+    let before = u64::from(word(cases));
     let rule = Rule {
         divisor: word(cases),
         span: word(cases),
         base: word(cases),
         step: word(cases),
     };
-    each(&mut s[..end], from, drawn, before, rule);
+    let places = &mut s[from.min(end)..end];
+    // The numbers are a generator's, or count on.
+    if drawn {
+        each(
+            places,
+            rule,
+            before,
+            |x| (x % 2147483648 * 1103515245 + 12345) % 2147483648,
+        );
+    } else {
+        each(places, rule, before, |x| (x % 2147483648 + 1) % 2147483648);
+    }
 }

@@ -1,19 +1,21 @@
--- The encoding in 64 bits, and of an answer from its parts. Assumes nothing.
+-- The encoding in 64 bits, and which answers it keeps apart. Assumes nothing.
 use mathlib.Core.Path.{◌≡◌, refl, ap, ◌∙◌}
 use Prim.Native.Nat.{ℕ, ◌-◌, ◌<◌, ◌^◌}
 use native.Mathlib.Omega.{arith}
-use borrow.Author.Tests.{lt-ltb, ne_eqb}
+use borrow.Author.Tests.{lt-ltb}
 use borrow.Author.Rules.{sfits_of}
 use lib.IntN.{ℤ, pos, negsuc, ◌+ℤ◌}
 use lib.Signed.{mag}
 use mir.Syntax.{w64}
 use mir.Val.{SFits, to_z, of_z}
 use mir.Facts.{to_z-of_z, to_z_pos}
-use Rattle.answers.specs.Answer.{Answer, accepted, refused, number_in, place_in}
+use Rattle.std.proofs.Common.{Result, Ok, Err}
+use Rattle.answers.specs.Answer.{Answer, accepted, refused, answered}
 use Rattle.answers.specs.Checks.{Outcome, Done}
+use Rattle.answers.specs.declared.refused.Refused.{Refused}
 use Rattle.encoding.specs.Answers.{of_count, Returned}
 use Rattle.encoding.specs.Encode.{least, encode, Apart}
-use Rattle.encoding.specs.Parts.{value_in, Parts, encode_parts, Returnable, Counted}
+use Rattle.encoding.specs.Parts.{PlaceFits, CountFits, Returnable, Counted}
 
 -- ---- 64 bits
 
@@ -36,53 +38,35 @@ sum k h = record { fits = in_range; is = to_z-of_z in_range ∙ ap (λ (z : ℤ)
     in_range : SFits w64 (least +ℤ to_z w64 k)
     in_range = rw (to_z_pos w64 h, above-least k h) (sfits_of {w = w64} (omega arith))
 
--- ---- an answer from its parts
-
-parts : (a : Answer ℤ) → Returnable a → encode_parts (number_in a) (place_in a) (value_in (pos 0) a) ≡ encode a
-unfolding encode
-parts (accepted z) h = refl
-parts (refused number place) h = rw (ne_eqb number 0 (λ e. omega arith))
-
-count_parts : (a : Answer ℕ) → Counted a → encode_parts (number_in a) (place_in a) (pos (value_in 0 a)) ≡ encode (of_count a)
-unfolding encode
-count_parts (accepted n) h = refl
-count_parts (refused number place) h = parts (refused number place) h
-
-place_small : (a : Answer ℤ) → Returnable a → place_in a < 2 ^ 54
-place_small (accepted z) h = omega arith
-place_small (refused number place) h = h.2
-
-count_small : (a : Answer ℕ) → Counted a → (place_in a < 2 ^ 54) × (value_in 0 a < 2 ^ 63)
-count_small (accepted n) h = (omega arith, h)
-count_small (refused number place) h = (h.2, omega arith)
-
--- ---- what an export returns: a is the answer that the code has, b the one that is promised
+-- ---- an answer that is promised to be returnable can be encoded
 
 -- a signed one
-module _ {a b : Answer ℤ} (same : a ≡ b) (h : Returnable b) {number place : ℕ} {z : ℤ} (p : Parts (pos 0) a number place z) where
-  pub signed_fits : place < 2 ^ 54
-  signed_fits = rw (p.place_is, same) (place_small b h)
-
-  pub signed_is : {code : ℤ} → code ≡ encode_parts number place z → mag code < 2 ^ 63 → to_z w64 (of_z w64 code) ≡ encode b
-  signed_is e fits = returned (e ∙ rw (p.number_is, p.place_is, p.value_is, same) (parts b h)) fits
+module _ {E : Type 0} (refusal : E → Refused) {r s : Result ℤ E} (same : r ≡ s) where
+  pub signed_fits : Returnable (answered refusal s) → PlaceFits refusal r
+  signed_fits h = by r (rw same h)
+    where
+      by : (r : Result ℤ E) → Returnable (answered refusal r) → PlaceFits refusal r
+      by (Ok z) h = tt
+      by (Err e) h = h.2
 
 -- a count
-module _ {a b : Answer ℕ} (same : a ≡ b) (h : Counted b) {number place n : ℕ} (p : Parts 0 a number place n) where
-  pub count_fits : (place < 2 ^ 54) × (n < 2 ^ 63)
-  count_fits = rw (p.place_is, p.value_is, same) (count_small b h)
-
-  pub count_is : {code : ℤ} → code ≡ encode_parts number place (pos n) → mag code < 2 ^ 63 → to_z w64 (of_z w64 code) ≡ encode (of_count b)
-  count_is e fits = returned (e ∙ rw (p.number_is, p.place_is, p.value_is, same) (count_parts b h)) fits
+module _ {E : Type 0} (refusal : E → Refused) (r : Result ℕ E) {a : Answer ℕ} (same : answered refusal r ≡ a) where
+  pub count_fits : Counted a → CountFits refusal r
+  count_fits h = by r (rw same h)
+    where
+      by : (r : Result ℕ E) → Counted (answered refusal r) → CountFits refusal r
+      by (Ok n) h = h
+      by (Err e) h = h.2
 
 -- a count of a call that was lent places
-module _ {R L : Type 0} (answer_of : R → Answer ℕ) {o : Outcome R L} {r : R} {lent : L} (d : Done o r lent) (h : Counted (answer_of o.result))
-    {number place n : ℕ} (p : Parts 0 (answer_of r) number place n) where
-  pub lent_fits : (place < 2 ^ 54) × (n < 2 ^ 63)
-  lent_fits = count_fits (ap answer_of d.result_is) h p
+module _ {E L : Type 0} (refusal : E → Refused) {o : Outcome (Result ℕ E) L} {r : Result ℕ E} {lent : L} (d : Done o r lent) where
+  pub lent_fits : Counted (answered refusal o.result) → CountFits refusal r
+  lent_fits h = count_fits refusal r (ap (answered refusal) d.result_is) h
 
-  pub lent_returned : {code : ℤ} → code ≡ encode_parts number place (pos n) → mag code < 2 ^ 63 →
-      Returned (λ (a : R). of_count (answer_of a)) o (to_z w64 (of_z w64 code)) lent
-  lent_returned e fits = record { code_is = count_is (ap answer_of d.result_is) h p e fits; lent_is = d.lent_is }
+  -- .. and is what that call's export returns
+  pub lent_returned : {code : ℤ} → code ≡ encode (of_count (answered refusal r)) → mag code < 2 ^ 63 →
+      Returned (λ (a : Result ℕ E). of_count (answered refusal a)) o (to_z w64 (of_z w64 code)) lent
+  lent_returned e fits = record { code_is = returned (rw (d.result_is) at e) fits; lent_is = d.lent_is }
 
 -- ---- what can be returned is kept apart
 

@@ -1,23 +1,19 @@
 -- Bookkeeping of proofs and of helpers: a reader of the promises needs none of it.
-use Rattle.std.specs.Prelude.{◌≡◌, false, cond, ℕ, ◌+◌, ◌*◌, ◌<◌, ◌^◌, eqb, ℤ, pos, ◌+ℤ◌}
+use Rattle.std.specs.Prelude.{◌≡◌, false, ℕ, ◌<◌, ◌^◌, ℤ, Result, Ok, Err}
 use Rattle.std.specs.Int.Signed.{lt_z}
-use Rattle.answers.specs.Answer.{Answer, accepted, refused, number_in, place_in}
-use Rattle.encoding.specs.Encode.{least, halfway}
+use Rattle.answers.specs.Answer.{Answer, accepted, refused}
+use Rattle.answers.specs.declared.refused.Refused.{Refused}
+use Rattle.encoding.specs.Encode.{halfway}
 
--- the value of an accepted answer, and another one for a refusal
-abbrev pub value_in : {A : Type 0} → A → Answer A → A
-value_in other (accepted a) = a
-value_in other (refused number place) = other
+-- a result whose error's place, if it has one, fits the code
+abbrev pub PlaceFits : {A E : Type 0} → (E → Refused) → Result A E → Type 0
+PlaceFits refusal (Ok a) = Unit
+PlaceFits refusal (Err e) = (refusal e).place < 2 ^ 54
 
--- an answer taken apart
-pub record Parts {A : Type 0} (other : A) (a : Answer A) (number place : ℕ) (value : A) : Type 0 where
-  pub number_is : number ≡ number_in a
-  pub place_is : place ≡ place_in a
-  pub value_is : value ≡ value_in other a
-
--- .. and encoded: no refusal has the number 0
-abbrev pub encode_parts : ℕ → ℕ → ℤ → ℤ
-encode_parts number place value = cond (eqb number 0) value (least +ℤ pos (number + 256 * place))
+-- .. and one that is a count: it fits 64 bits with a sign
+abbrev pub CountFits : {E : Type 0} → (E → Refused) → Result ℕ E → Type 0
+CountFits refusal (Ok n) = n < 2 ^ 63
+CountFits refusal (Err e) = (refusal e).place < 2 ^ 54
 
 -- a refusal that the code can return: its number is not 0 and fits a byte, and its place fits what is left
 abbrev pub Refusal : ℕ → ℕ → Type 0

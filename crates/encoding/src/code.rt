@@ -1,35 +1,38 @@
 // The encoding of answers, in one place: an accepted answer as itself, a refusal near INT64_MIN.
-ghost use Rattle.std.specs.Prelude.{◌≡◌, ◌<◌, ◌^◌, pos};
-ghost use Rattle.encoding.specs.Parts.{encode_parts};
+ghost use Rattle.std.specs.Prelude.{◌≡◌, ◌<◌, ◌^◌};
+ghost use Rattle.answers.specs.Answer.{answered, refused};
+ghost use Rattle.encoding.specs.Answers.{of_count};
+ghost use Rattle.encoding.specs.Encode.{encode};
+ghost use Rattle.encoding.specs.Parts.{CountFits, PlaceFits};
 
-// The parts of an answer that is a count: the number of a refusal, 0 where there is none, its place, and the value.
-#[derive(Clone, Copy)]
-pub struct CountParts(pub u8, pub usize, pub usize);
+use answers::refused::Numbered;
 
-// .. and of one with a sign.
-#[derive(Clone, Copy)]
-pub struct SignedParts(pub u8, pub usize, pub i32);
-
-fn encoded(number: u8, place: usize, value: i64) -> i64
-    requires { place < 2 ^ 54 }
-    ensures { result ≡ encode_parts number place value }
+fn refusal<E: Numbered>(error: E) -> i64
+    requires { (E.refusal error).place < 2 ^ 54 }
+    ensures { result ≡ encode (refused (E.refusal error).number (E.refusal error).place) }
 {
-    if number == 0 {
-        return value;
+    let told = error.refused();
+    i64::MIN + (usize::from(told.number) + 256 * told.place) as i64
+}
+
+// An answer that is a count: a length, a delay, a number of samples or of bytes.
+pub fn count<E: Numbered>(answer: Result<usize, E>) -> i64
+    requires { CountFits E.refusal answer }
+    ensures { result ≡ encode (of_count (answered E.refusal answer)) }
+{
+    match answer {
+        Ok(n) => n as i64,
+        Err(error) => refusal(error),
     }
-    -9223372036854775808 + (number as usize + 256 * place) as i64
 }
 
-pub fn count(a: CountParts) -> i64
-    requires { (a.1 < 2 ^ 54) × (a.2 < 2 ^ 63) }
-    ensures { result ≡ encode_parts a.0 a.1 (pos a.2) }
+// .. and one with a sign: a sample, a gain. Apart from `count`, since one form for both would take how a value is widened.
+pub fn signed<E: Numbered>(answer: Result<i32, E>) -> i64
+    requires { PlaceFits E.refusal answer }
+    ensures { result ≡ encode (answered E.refusal answer) }
 {
-    encoded(a.0, a.1, a.2 as i64)
-}
-
-pub fn signed(a: SignedParts) -> i64
-    requires { a.1 < 2 ^ 54 }
-    ensures { result ≡ encode_parts a.0 a.1 a.2 }
-{
-    encoded(a.0, a.1, a.2 as i64)
+    match answer {
+        Ok(z) => i64::from(z),
+        Err(error) => refusal(error),
+    }
 }

@@ -2,13 +2,14 @@
 #![tactic(auto)]
 
 ghost use Rattle.std.specs.Prelude.{◌≡◌, unsigned_abs};
-ghost use Rattle.printing.specs.Told.{numbered, by_number};
+ghost use Rattle.gain.specs.Answer.{answer_of};
+ghost use Rattle.printing.specs.Told.{numbered, with_value};
 
-use encoding::code::SignedParts;
-use gain::{Command, Gained};
-use parts::gains::gain_parts;
-use printing::{Answer, line, text, told};
+use answers::refused::{Numbered, Refused};
+use gain::{Command, GainError};
+use printing::told;
 use std::io;
+use std::num::f32_from_bits_with_nan;
 
 // 0, 0.5, 1, 1.5, .. 12, as bit patterns: the half decibels.
 const HALVES: [u32; 25] = [
@@ -33,68 +34,47 @@ const ENDS: [u32; 7] = [
     0x00000000, 0x007fffff, 0x3f800000, 0x40800000, 0x41480000, 0x7f800000, 0x7fc00000,
 ];
 
-// The float of a bit pattern. Above infinity's the pattern is a NaN's.
-fn float(bits: u32) -> f32 {
-    if 0x7f800000 < bits % 0x80000000 {
-        0.0 / 0.0
-    } else {
-        f32::from_bits(bits)
-    }
-}
-
-// A gain without its sign, or the number of the refusal.
-fn answered(a: SignedParts) -> Answer
-    ensures { numbered result ≡ by_number a.0 (unsigned_abs a.2) }
+// A gain without its sign, or its refusal.
+fn unsigned(gained: Result<i32, GainError>) -> Result<u64, Refused>
+    ensures { numbered result ≡ with_value unsigned_abs (answer_of gained) }
 {
-    if a.0 == 0 {
-        return Answer::Accepted(printing::magnitude(a.2));
-    }
-    Answer::Refused(a.0 as u64)
-}
-
-fn write(rt: &impl Print, answer: Gained) -> io::Result<()> {
-    told(rt, answered(gain_parts(answer)))?;
-    line(rt)
-}
-
-fn command(decibels: bool, x: f32) -> Command {
-    if decibels {
-        Command::Decibels(x)
-    } else {
-        Command::Factor(x)
+    match gained {
+        Ok(gain) => Ok(u64::from(gain.unsigned_abs())),
+        Err(error) => Err(error.refused()),
     }
 }
 
-fn one(rt: &impl Print, decibels: bool, bits: u32) -> io::Result<()> {
-    if decibels {
-        text(rt, b"decibels")?;
-    } else {
-        text(rt, b"factor")?;
-    }
-    printing::pattern(rt, bits)?;
-    write(rt, gain::gain(command(decibels, float(bits))))
+fn write(rt: &impl Print, command: Command) -> io::Result<()> {
+    told(rt, unsigned(gain::gain(command)))?;
+    println!(rt)
 }
 
-fn beside(rt: &impl Print, decibels: bool, bits: u32) -> io::Result<()> {
-    one(rt, decibels, bits.wrapping_sub(1))?;
-    one(rt, decibels, bits)?;
-    one(rt, decibels, bits.wrapping_add(1))
-}
-
-fn each(rt: &impl Print, decibels: bool, patterns: &[u32]) -> io::Result<()> {
-    for i in 0..patterns.len() {
-        let bits = patterns[i];
-        beside(rt, decibels, bits)?;
-        beside(rt, decibels, bits.wrapping_add(0x80000000))?;
+// The command of each float, and of its negative.
+fn each<F: Fn(f32) -> Command>(
+    rt: &impl Print,
+    name: &str,
+    command: F,
+    patterns: &[u32],
+) -> io::Result<()>
+    requires { F.IsAlwaysCallable command }
+{
+    for pattern in patterns {
+        for sign in [0, 0x80000000] {
+            let bits = pattern.wrapping_add(sign);
+            for near in [bits.wrapping_sub(1), bits, bits.wrapping_add(1)] {
+                print!(rt; "{name} {near:08x}")?;
+                write(rt, command(f32_from_bits_with_nan(near)))?;
+            }
+        }
     }
     Ok(())
 }
 
 fn main(rt: HostRuntime) -> io::Result<()> {
-    each(&rt, true, &HALVES)?;
-    each(&rt, true, &NO_HALVES)?;
-    each(&rt, false, &TIES)?;
-    each(&rt, false, &ENDS)?;
-    text(&rt, b"off")?;
-    write(&rt, gain::gain(Command::Off))
+    each(&rt, "decibels", Command::Decibels, &HALVES)?;
+    each(&rt, "decibels", Command::Decibels, &NO_HALVES)?;
+    each(&rt, "factor", Command::Factor, &TIES)?;
+    each(&rt, "factor", Command::Factor, &ENDS)?;
+    print!(&rt; "off")?;
+    write(&rt, Command::Off)
 }

@@ -1,7 +1,7 @@
 -- The header reader's answer as a count.
 use Rattle.std.specs.Prelude.{ℕ}
 use Rattle.answers.specs.Answer.{Answer, accepted, refused}
-use Rattle.wave.specs.Walk.{Found}
+use Rattle.wave.specs.declared.found.Found.{Found}
 
 -- rule 12.7: what was found goes to the lent places; the answer is their number, 5
 abbrev pub of_found : Answer Found → Answer ℕ

@@ -1,9 +1,5 @@
-// The answer of each public call in its parts, for the encoding: the number of a refusal, its place, and the value.
+// What C is returned of the two calls whose value goes to lent places: how many places.
 #![tactic(auto)]
 
-pub mod codec;
-pub mod equaliser;
 pub mod float_codec;
-pub mod gains;
 pub mod headers;
-pub mod two_feeds;

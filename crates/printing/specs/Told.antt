@@ -1,13 +1,13 @@
 -- What the programs print of an answer, beside what the promises call it.
-use Rattle.std.specs.Prelude.{cond, ℕ, eqb}
-use Rattle.answers.specs.Answer.{Answer, accepted, refused}
-use Rattle.printing.specs.declared.Answer as printing
+use Rattle.std.specs.Prelude.{ℕ, Result}
+use Rattle.answers.specs.Answer.{Answer, accepted, refused, answered}
+use Rattle.answers.specs.declared.refused.Refused.{Refused}
 
--- rule 6.8: the number that is printed of an answer
-abbrev pub numbered : printing.Answer → Answer ℕ
-numbered (printing.TheVariants.Accepted n) = accepted n
-numbered (printing.TheVariants.Refused n) = refused n 0
+-- rule 6.8: the answer that is printed: its value, or the number and the place of its refusal
+abbrev pub numbered : Result ℕ Refused → Answer ℕ
+numbered = answered (λ (r : Refused). r)
 
--- rule 6.8: an answer by the number of its refusal, 0 where there is none, and its value
-abbrev pub by_number : (number value : ℕ) → Answer ℕ
-by_number number value = cond (eqb number 0) (accepted value) (refused number 0)
+-- rule 6.8: the same answer, by something of its value
+abbrev pub with_value : {A : Type 0} → (A → ℕ) → Answer A → Answer ℕ
+with_value of (accepted a) = accepted (of a)
+with_value of (refused number place) = refused number place

@@ -1,35 +1,25 @@
 // Lists of places: a part, how two differ, and a list on standard output.
-ghost use Rattle.std.specs.Prelude.{◌≤◌, ◌<◌, ◌^◌, min, ◌≡◌, length};
+ghost use Rattle.std.specs.Prelude.{◌≤◌, ◌<◌, ◌^◌, min, ◌≡◌, length, not, count_by};
+ghost use Rattle.std.specs.List.{zip};
+ghost use Rattle.std.specs.Ordering.{int_eq};
 ghost use Rattle.printing.specs.Part.{Front};
 ghost use Rattle.printing.specs.Total.{code as Total·code, add as Total·add, total_from};
 
-use crate::{count, field, magnitude, signed_field, text};
 use std::io;
-use whole::counts::least;
 
 // How many of the first n places there are.
 pub fn front(n: usize, s: &[i32]) -> usize
     ensures { Front n result s.now }
 {
-    least(n, s.len())
-}
-
-fn one_if(differs: bool) -> usize
-    ensures { result ≤ 1 }
-{
-    if differs { 1 } else { 0 }
+    n.min(s.len())
 }
 
 // How many places differ, as far as both lists go.
 fn changed(a: &[i32], b: &[i32]) -> usize
-    ensures { result ≤ min (length a.now) (length b.now) }
+    ensures value { result ≡ count_by (λ p. not (int_eq p.0 p.1)) (zip a.now b.now) }
+    ensures upper_bound { result ≤ min (length a.now) (length b.now) }
 {
-    let n = least(a.len(), b.len());
-    let mut k: usize = 0;
-    for i in 0..n {
-        k += one_if(a[i] != b[i]);
-    }
-    k
+    a.iter().zip(b).filter(|(x, y)| x != y).count()
 }
 
 // A place as its 32 bits count from 0 on.
@@ -37,11 +27,7 @@ fn code(z: i32) -> u64
     ensures value { result ≡ Total·code z }
     ensures upper_bound { result < 2 ^ 32 }
 {
-    if z < 0 {
-        4294967296 - magnitude(z)
-    } else {
-        magnitude(z)
-    }
+    u64::from(z.cast_unsigned())
 }
 
 fn added(sum: u64, i: usize, z: i32) -> u64
@@ -56,33 +42,32 @@ fn added(sum: u64, i: usize, z: i32) -> u64
 fn total(s: &[i32]) -> u64
     ensures { result ≡ total_from 0 0 s.now }
 {
-    let mut sum: u64 = 0;
-    for i in 0..s.len() {
-        sum = added(sum, i, s[i]);
+    let mut sum = 0;
+    for (i, z) in s.iter().enumerate() {
+        sum = added(sum, i, *z);
     }
     sum
 }
 
 fn fields(rt: &impl Print, s: &[i32]) -> io::Result<()> {
-    for i in 0..s.len() {
-        signed_field(rt, s[i])?;
+    for z in s {
+        print!(rt; " {z}")?;
     }
     Ok(())
 }
 
 // How many places, and each of them, or their total if they are many.
 pub fn list(rt: &impl Print, s: &[i32]) -> io::Result<()> {
-    count(rt, s.len())?;
+    print!(rt; " {}", s.len())?;
     if s.len() <= 40 {
         fields(rt, s)
     } else {
-        text(rt, b" total")?;
-        field(rt, total(s))
+        print!(rt; " total {}", total(s))
     }
 }
 
 // How many places are not as they were before, and the list.
 pub fn compared(rt: &impl Print, s: &[i32], before: &[i32]) -> io::Result<()> {
-    count(rt, changed(s, before))?;
+    print!(rt; " {}", changed(s, before))?;
     list(rt, s)
 }

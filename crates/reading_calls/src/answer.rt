@@ -1,15 +1,15 @@
-// An answer in its parts, as it is told: a refusal by its number.
+// An answer as it is told: a count, or a refusal by its number and its place.
 ghost use Rattle.std.specs.Prelude.{◌≡◌};
-ghost use Rattle.printing.specs.Told.{numbered, by_number};
+ghost use Rattle.answers.specs.Answer.{answered};
+ghost use Rattle.printing.specs.Told.{numbered};
 
-use encoding::code::CountParts;
-use printing::Answer;
+use answers::refused::{Numbered, Refused};
 
-pub(crate) fn answer(a: CountParts) -> Answer
-    ensures { numbered result ≡ by_number a.0 a.2 }
+pub(crate) fn answer<E: Numbered>(answer: Result<usize, E>) -> Result<u64, Refused>
+    ensures { numbered result ≡ answered E.refusal answer }
 {
-    if a.0 == 0 {
-        return Answer::Accepted(a.2 as u64);
+    match answer {
+        Ok(n) => Ok(n as u64),
+        Err(error) => Err(error.refused()),
     }
-    Answer::Refused(a.0 as u64)
 }

@@ -3,3 +3,4 @@
 
 mod answer;
 pub mod call;
+pub mod lists;

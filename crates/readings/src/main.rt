@@ -6,49 +6,35 @@
 use cases::fill::fill;
 use cases::words::word;
 use reading_calls::call;
+use reading_calls::lists::Lists;
 use std::io;
 use std::io::Read;
 
-// One case, on lists that are as the cases before it left them.
-fn one(
-    rt: &impl Print,
-    cases: &mut impl Read,
-    memory: &mut [i32; 92163],
-    gains: &mut [i32; 10],
-    input: &mut [i32; 8194],
-    output: &mut [i32; 8194],
-) -> io::Result<()> {
-    let kept = *memory;
-    let marked = *output;
+// One case, on lists that are as the cases before it left them. What is asked is a number of standard input, told here alone.
+fn one(rt: &impl Print, cases: &mut impl Read, lists: &mut Lists) -> io::Result<()> {
+    let before = *lists;
     match word(cases) {
         0 => call::length(rt, cases)?,
-        1 => call::prepared(rt, cases, memory, &kept)?,
-        2 => call::blocked(rt, cases, memory, gains, input, output, &kept, &marked)?,
-        3 => fill(cases, memory),
-        4 => fill(cases, gains),
-        5 => fill(cases, input),
-        _ => fill(cases, output),
+        1 => call::prepared(rt, cases, lists, &before)?,
+        2 => call::blocked(rt, cases, lists, &before)?,
+        3 => fill(cases, &mut lists.memory),
+        4 => fill(cases, &mut lists.gains),
+        5 => fill(cases, &mut lists.input),
+        _ => fill(cases, &mut lists.output),
     }
     Ok(())
 }
 
-// The memory has as many places as the layout would give to eleven bands of one channel; input and output have one frame more than a block
-// of two channels may have.
 fn main(rt: HostRuntime) -> io::Result<()> {
-    let mut memory = [0i32; 92163];
-    let mut gains = [0i32; 10];
-    let mut input = [0i32; 8194];
-    let mut output = [0i32; 8194];
+    let mut lists = Lists {
+        memory: [0; 92163],
+        gains: [0; 10],
+        input: [0; 8194],
+        output: [0; 8194],
+    };
     let mut cases = rt.stdin();
     for _ in 0..word(&mut cases) {
-        one(
-            &rt,
-            &mut cases,
-            &mut memory,
-            &mut gains,
-            &mut input,
-            &mut output,
-        )?;
+        one(&rt, &mut cases, &mut lists)?;
     }
     Ok(())
 }

@@ -1,16 +1,10 @@
--- The library call's answer, encoded, and what it leaves.
+-- The library call's answer can be encoded.
 use Rattle.std.proofs.Common.{to_z-of_z}
-use Rattle.samples.specs.Sample.{to_bytes, put_answer}
-use Rattle.encoding.proofs.Encoding.{lent_fits, lent_returned}
+use Rattle.samples.specs.Sample.{store_refusal}
+use Rattle.encoding.proofs.Encoding.{lent_fits}
 use Rattle.capi.proofs.Returnable.{put_counted}
 use Rattle.capi.proofs.codec.oeq_sample_to_bytes.Goals as goal
 
 pub count-requires : goal.count-requires
 count-requires c =
-    lent_fits put_answer {o = to_bytes c.args.sample c.args.buffer.now} (rw (to_z-of_z c.ranges.sample) at c.sample_to_bytes.ensures)
-    (put_counted c.args.sample c.args.buffer.now) c.put_parts.ensures
-
-pub returns : goal.returns
-returns c =
-    lent_returned put_answer {o = to_bytes c.args.sample c.args.buffer.now} (rw (to_z-of_z c.ranges.sample) at c.sample_to_bytes.ensures)
-    (put_counted c.args.sample c.args.buffer.now) c.put_parts.ensures c.count.ensures c.count.type_inv
+    lent_fits store_refusal (rw (to_z-of_z c.ranges.sample) at c.sample_to_bytes.ensures) (put_counted c.args.sample c.args.buffer.now)

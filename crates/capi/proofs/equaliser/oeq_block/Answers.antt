@@ -1,16 +1,9 @@
--- The library call's answer, encoded, and what it leaves.
-use Rattle.octave.specs.Answer.{block_answer}
-use Rattle.octave.specs.Block.{block_of}
-use Rattle.encoding.proofs.Encoding.{lent_fits, lent_returned}
+-- The library call's answer can be encoded.
+use Rattle.octave.specs.Answer.{block_refusal}
+use Rattle.encoding.proofs.Encoding.{lent_fits}
 use Rattle.capi.proofs.Returnable.{block_counted}
 use Rattle.capi.proofs.equaliser.oeq_block.Goals as goal
 
 pub count-requires : goal.count-requires
 count-requires c =
-    lent_fits block_answer {o = block_of c.args.memory.now c.args.gains.now c.args.input.now c.args.output.now} c.block.ensures
-    (block_counted c.args.memory.now c.args.gains.now c.args.input.now c.args.output.now) c.block_parts.ensures
-
-pub returns : goal.returns
-returns c =
-    lent_returned block_answer {o = block_of c.args.memory.now c.args.gains.now c.args.input.now c.args.output.now} c.block.ensures
-    (block_counted c.args.memory.now c.args.gains.now c.args.input.now c.args.output.now) c.block_parts.ensures c.count.ensures c.count.type_inv
+    lent_fits block_refusal c.block.ensures (block_counted c.args.memory.now c.args.gains.now c.args.input.now c.args.output.now)

@@ -1,9 +1,8 @@
--- The gain command's answer, encoded.
-use Rattle.std.proofs.Common.{ap}
-use Rattle.gain.specs.Answer.{answer_of}
-use Rattle.encoding.proofs.Encoding.{signed_is}
+-- The gain command's answer can be encoded.
+use Rattle.gain.specs.Answer.{gain_refusal}
+use Rattle.encoding.proofs.Encoding.{signed_fits}
 use Rattle.capi.proofs.Returnable.{gain_returnable}
 use Rattle.capi.proofs.gains.gain_code.Goals as goal
 
-pub returns : goal.returns
-returns c = signed_is (ap answer_of c.gain.ensures) (gain_returnable c.args.command) c.gain_parts.ensures c.signed.ensures c.signed.type_inv
+pub signed-requires : goal.signed-requires
+signed-requires c = signed_fits gain_refusal c.gain.ensures (gain_returnable c.args.command)
