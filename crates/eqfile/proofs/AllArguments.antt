@@ -8,10 +8,11 @@ use native.Mathlib.Nat.{add-zero}
 use native.Mathlib.Omega.{arith}
 use borrow.Author.Tests.{eqb-true, eqb-false}
 use lib.Dec.{eqb, leb}
-use lib.ListN.{length, set, length-append}
+use lib.ListN.{length, length-append}
 use lib.IntN.{ℤ}
 use Rattle.answers.specs.Answer.{Answer, accepted, refused}
 use Rattle.std.specs.Prelude.{Option, Some, None}
+use Rattle.std.proofs.Math.Seq.{set-append_seam}
 use Rattle.arguments.specs.Argument.{argument_of}
 use Rattle.arguments.specs.Arguments.{bands, put, another, with, each_gain, arguments_of, all_of}
 use Rattle.eqfile.specs.Start.{start_of}
@@ -25,10 +26,6 @@ unfolding all_of another
 refused_stays [] gains = refl
 refused_stays (text ∷ texts) gains = refused_stays texts gains
 
-set_here : (before rest : List ℤ) (r g : ℤ) → set (before ++ r ∷ rest) (length before) g ≡ before ++ g ∷ rest
-set_here [] rest r g = refl
-set_here (b ∷ before) rest r g = ap (λ (l : List ℤ). b ∷ l) (set_here before rest r g)
-
 -- ---- some are taken, and there are as many places as texts
 
 abbrev Comes : Answer (List ℤ) → List ℤ → ℕ → Option ℕ × List ℤ → Type 0
@@ -41,7 +38,7 @@ one_longer before g = length-append before (g ∷ [])
 taken_so_far : (text : List ℕ) (before rest : List ℤ) (r g : ℤ) → length before < length (before ++ r ∷ rest) → Some g ≡ argument_of text →
     (Some (length (before ++ g ∷ [])), (before ++ g ∷ []) ++ rest) ≡ another (Some (length before)) text (before ++ r ∷ rest)
 taken_so_far text before rest r g places e =
-    ap₂ (λ (n : ℕ) (l : List ℤ). (Some n, l)) (one_longer before g) (append_assoc before (g ∷ []) rest ∙ sym (set_here before rest r g)) ∙
+    ap₂ (λ (n : ℕ) (l : List ℤ). (Some n, l)) (one_longer before g) (append_assoc before (g ∷ []) rest ∙ sym (set-append_seam before r rest g)) ∙
     comes_to text (before ++ r ∷ rest) (length before) (Some g) places e
 
 shift : (before : List ℤ) (g : ℤ) (n : ℕ) (b : Answer (List ℤ)) (s : Option ℕ × List ℤ) → Comes b (before ++ g ∷ []) (length (before ++ g ∷ []) + n) s →

@@ -1,17 +1,12 @@
 -- The checks in their order. Assumes nothing.
-use mathlib.Core.Path.{◌≡◌, refl, sym, ap, ◌∙◌}
-use mathlib.Core.Bool.{Bool, true, false, cond, true≢false}
+use mathlib.Core.Path.{◌≡◌, refl}
+use mathlib.Core.Bool.{Bool, true, false, cond}
 use lib.Dec.{eqb, ltb}
 use mathlib.Core.List.{List}
 use Prim.Native.Nat.{ℕ, ◌*◌, ◌/◌, ◌≤◌}
 use native.Mathlib.Omega.{arith}
 use borrow.Author.Tests.{le-ltb, ltb-false, eq-eqb, ne_eqb}
-use Rattle.std.specs.Prelude.{Option, Some, None, Result, Ok, Err, IsErrAnd, not}
-use Rattle.std.specs.Option.{option_eq}
-use Rattle.wave.specs.Walk as wave
-use Rattle.wave.specs.declared.refusal.Refusal as wave_refusal
-use Rattle.eqfile.specs.declared.refusal.Refusal.{Refusal}
-use Rattle.eqfile.specs.declared.refusal.Refusal.TheVariants.{Header}
+use Rattle.std.specs.Prelude.{Option, Some, None}
 use Rattle.answers.specs.Answer.{Answer, accepted, refused}
 use Rattle.answers.specs.Unit.{largest_data}
 use Rattle.samples.specs.Channels.{count_of}
@@ -22,7 +17,7 @@ use Rattle.wave.specs.Walk.{read_of}
 use Rattle.wave_values.specs.Values.{frame_size}
 use Rattle.arguments.specs.Arguments.{bands}
 use Rattle.eqfile.specs.declared.plan.Plan.{Plan}
-use Rattle.eqfile.specs.Start.{plan_for, plan_of, start_of, start_answer}
+use Rattle.eqfile.specs.Start.{plan_for, plan_of, start_of}
 
 -- the most samples that a header can state, as frames of so many channels
 no_more_than : (channels : Channels) (n : ℕ) → n ≤ largest_data / 3 / count_of channels → 3 * (count_of channels * n) ≤ largest_data
@@ -48,33 +43,6 @@ not_eight n front h = rw (ne_eqb n bands h)
 pub eight : (n : ℕ) (front : List ℕ) (a : Answer Plan) → n ≡ bands → a ≡ plan_of (read_of front) → a ≡ start_of (Some n) front
 unfolding start_of
 eight n front a h e = rw (eq-eqb n bands h, e)
-
--- ---- the same, as the code tests them
-
-pub other_arguments : (a : Option ℕ) (front : List ℕ) → true ≡ not (option_eq eqb a (Some bands)) → refused 30 0 ≡ start_of a front
-unfolding start_of
-other_arguments None front e = refl
-other_arguments (Some n) front e = by (eqb n bands) e
-  where
-    by : (b : Bool) → true ≡ not b → refused 30 0 ≡ cond b (plan_of (read_of front)) (refused 30 0)
-    by true e = absurd (true≢false e)
-    by false e = refl
-
-pub eight_taken : (a : Option ℕ) (front : List ℕ) (r : Answer Found) (p : Answer Plan) → false ≡ not (option_eq eqb a (Some bands)) → r ≡ read_of front → p ≡ plan_of r → p ≡ start_of a front
-unfolding start_of
-eight_taken None front r p e read planned = absurd (true≢false (sym e))
-eight_taken (Some n) front r p e read planned = planned ∙ ap plan_of read ∙ by (eqb n bands) e
-  where
-    by : (b : Bool) → false ≡ not b → plan_of (read_of front) ≡ cond b (plan_of (read_of front)) (refused 30 0)
-    by true e = refl
-    by false e = absurd (true≢false (sym e))
-
--- the reader's refusal is passed on
-pub passed_on : (r : Result Plan Refusal) (header : wave_refusal.Refusal) → IsErrAnd r (λ (e : Refusal). e ≡ Header header) →
-    start_answer r ≡ plan_of (refused (wave.refusal_of header).number (wave.refusal_of header).place)
-unfolding plan_of
-passed_on (Ok p) header e = absurd e
-passed_on (Err refusal) header e = let answer : Refusal → Answer Plan = λ r. start_answer (Err r) in ap answer e
 
 -- a run that starts has frames whose bytes a header can state
 abbrev pub Writable : Answer Plan → Type 0

@@ -1,5 +1,5 @@
 -- The turns of the plan. Assumes nothing.
-use mathlib.Core.Path.{◌≡◌, refl, sym, ap, ap₂, ◌∙◌}
+use mathlib.Core.Path.{◌≡◌, refl}
 use mathlib.Core.Bool.{Bool, true, false, cond}
 use Prim.Native.Nat.{ℕ, ◌-◌, ◌*◌, ◌≤◌, ◌<◌, min}
 use native.Mathlib.Nat.{mul-le-mul, mul-le-mul_right, mul-le-mul_left}
@@ -34,27 +34,6 @@ few_channels Two = (omega arith, omega arith)
 -- the samples of a turn's frames have room
 pub samples_most : (count k : ℕ) → count ≤ 2 → k ≤ turn_limit → count * k ≤ turn_room
 samples_most count k c h = mul-le-mul c h
-
-module _ (size frames at read fed : ℕ) where
-  -- fewer bytes were read than asked: the data has ended
-  pub ended : all_read size frames at read ≡ false → 0 ≡ wanted_of size frames at read fed
-  unfolding wanted_of
-  ended h = ap (λ (b : Bool). cond b (size * min fed (frames - at)) 0) (sym h)
-
-  pub not_ended : (s m left : ℕ) → s ≡ size → all_read size frames at read ≡ true → left ≡ frames - at → m ≡ min fed left → s * m ≡ wanted_of size frames at read fed
-  unfolding wanted_of
-  not_ended s m left is h e f = ap₂ ◌*◌ is (f ∙ ap (λ (k : ℕ). min fed k) e) ∙ ap (λ (b : Bool). cond b (size * min fed (frames - at)) 0) (sym h)
-
-pub turn_is : (count size frames at read n all left fed early skipped wanted : ℕ) → n ≡ count → all ≡ fed_in_all frames → left ≡ all - at →
-    fed ≡ min turn_limit left → early ≡ late - at → skipped ≡ min fed early → wanted ≡ wanted_of size frames at read fed →
-    ◌≡◌ {A = Turn} (record { fed = fed; wanted = wanted; skipped = skipped; written = 3 * (n * (fed - skipped)) }) (turn_of count size frames at read)
-unfolding turn_of
-turn_is count size frames at read n all left fed early skipped wanted c a l f e s w =
-    let most = min turn_limit (fed_in_all frames - at) in
-    let fed_is : fed ≡ most = f ∙ ap (min turn_limit) (l ∙ ap (λ (k : ℕ). k - at) a) in
-    let skipped-is : skipped ≡ min most (late - at) = s ∙ ap₂ min fed_is e in
-    let wanted_is : wanted ≡ wanted_of size frames at read most = w ∙ ap (λ (k : ℕ). wanted_of size frames at read k) fed_is in
-    λ i. record { fed = fed_is i; wanted = wanted_is i; skipped = skipped-is i; written = 3 * (c i * (fed_is i - skipped-is i)) }
 
 -- ---- what a caller's buffers have to hold
 

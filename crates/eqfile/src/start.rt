@@ -30,6 +30,7 @@ fn planned(found: Found) -> Result<Plan, Refusal>
 }
 
 // The arguments, then the header, then the length to be written.
+#[tactic(auto, unfolding(crate::specs::Start::start_of, crate::specs::Start::plan_of))]
 pub fn begin(arguments: Option<usize>, front: &[u8]) -> Result<Plan, Refusal>
     ensures { start_answer result ≡ start_of arguments front.now }
 {

@@ -28,6 +28,7 @@ impl Plan {
     }
 
     // The bytes to read for the block at `at`: none once the data has ended.
+    #[tactic(auto, unfolding(crate::specs::Turn::wanted_of))]
     fn wanted(self, at: usize, read: usize, fed: usize) -> usize
         ensures { result ≡ wanted_of (frame_size (count_of self.channels) self.format) self.frames at read fed }
     {
@@ -39,6 +40,7 @@ impl Plan {
     }
 
     // The turn after `at` frames were fed and `read` bytes of data were read.
+    #[tactic(auto, unfolding(crate::specs::Turn::turn_of))]
     pub fn next_turn(self, at: usize, read: usize) -> Turn
         ensures { result ≡ turn_of (count_of self.channels) (frame_size (count_of self.channels) self.format) self.frames at read }
     {

@@ -20,7 +20,7 @@ fn missing(rt: &impl Eprint, run: Run, read: usize)
 {
     let bytes = run.plan.short(read);
     if 0 < bytes {
-        say::line(rt, "short ", bytes as u64);
+        say::line(rt, "short ", &bytes);
     }
 }
 

@@ -1,17 +1,18 @@
 // Lines on standard error. Where it takes none, nothing more can be said.
 use answers::refused::Numbered;
 use eqfile::Refusal;
+use std::fmt::Display;
 use std::io;
 use std::io::Write;
 
-// A word and a number.
-pub(crate) fn line(rt: &impl Eprint, word: &str, n: u64) {
-    let _ = eprintln!(rt; "{word}{n}");
+// Some words, and what they tell of.
+pub(crate) fn line(rt: &impl Eprint, words: &str, what: &impl Display) {
+    let _ = eprintln!(rt; "{words}{what}");
 }
 
 // The number of a refusal.
 pub(crate) fn refused(rt: &impl Eprint, refusal: Refusal) {
-    line(rt, "refused ", u64::from(refusal.refused().number));
+    line(rt, "refused ", &refusal.refused().number);
 }
 
 // The system's words, without the number that stands behind them.
@@ -28,6 +29,5 @@ pub(crate) fn output_failed(rt: &impl Eprint, error: io::Error) {
     let mut text = [0u8; 320];
     let mut room: &mut [u8] = &mut text;
     let _ = write!(room, "{error}");
-    let words = reason(&text);
-    let _ = eprintln!(rt; "eqwave: standard output: {words}");
+    line(rt, "eqwave: standard output: ", &reason(&text));
 }

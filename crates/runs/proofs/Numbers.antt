@@ -2,6 +2,7 @@
 use mathlib.Core.Path.{◌≡◌, refl, sym, ap, ap₂, ◌∙◌}
 use mathlib.Core.Logic.{◌⊎◌, inl, inr, ⊎_elim}
 use mathlib.Core.Bool.{Bool, true, false, ◌&&◌, true≢false}
+use Rattle.std.proofs.Math.Bool.{and-true, and-false}
 use mathlib.Core.List.{List, [], ◌∷◌, ◌++◌, append-nil}
 use Prim.Native.Nat.{ℕ, zero, suc, ◌+◌, ◌-◌, ◌*◌, ◌≤◌, min}
 use native.Mathlib.Nat.{suc-add, zero-add, mul-zero, mul-add}
@@ -52,14 +53,6 @@ numbers_is : (n k : ℕ) (format : Format) (s : List ℕ) → there_of n format 
 unfolding numbers_from
 numbers_is n k format s e = ap (λ (j : ℕ). all_samples j format s) e ∙ all_samples_lem k format s
 
-and_true : (b : Bool) → b ≡ (b && true)
-and_true true = refl
-and_true false = refl
-
-and_false : (b : Bool) → (b && false) ≡ false
-and_false true = refl
-and_false false = refl
-
 -- a block's bytes and those behind it, as in `from-append`
 numbers_append : (a b : ℕ) (format : Format) (x y : List ℕ) → length x ≤ size_of format * a → (length x ≡ size_of format * a) ⊎ (y ≡ []) →
     numbers_from (a + b) format (x ++ y) ≡ (numbers_from a format x && numbers_from b format y)
@@ -72,7 +65,7 @@ numbers_append a b format x y l (inl e) =
 numbers_append a b format x y l (inr e) =
     let k = there_of a format x in
     ap (λ (z : List ℕ). numbers_from (a + b) format (x ++ z)) e ∙ ap (numbers_from (a + b) format) (append-nil x) ∙
-    numbers_is (a + b) k format x (fewer a b format (length x) l) ∙ sym (numbers_is a k format x refl) ∙ and_true (numbers_from a format x) ∙
+    numbers_is (a + b) k format x (fewer a b format (length x) l) ∙ sym (numbers_is a k format x refl) ∙ sym (and-true (numbers_from a format x)) ∙
     ap (λ (t : Bool). numbers_from a format x && t) (sym (no_numbers b format y (ap length e)))
 
 -- more room, no more bytes: nothing more is judged
@@ -144,7 +137,7 @@ module _ (gains : List ℤ) (format : Format) (channels : Channels) (frames : �
       numbers_append (c * g) (c * (frames - at - g)) format u rest few
       (⊎_elim (λ (e : length u ≡ (turn_at format channels frames end).wanted). inl (e ∙ w-is ∙ by_samples c (size_of format) g)) (λ (e : rest ≡ []). inr e) st.last) ∙
       ap (λ (b : Bool). b && numbers_from (c * (frames - at - g)) format rest) none) ∙
-      and_false (numbers_from (c * at) format (handed us))
+      and-false (numbers_from (c * at) format (handed us))
     where
       parts : (a b n : ℕ) → a + b ≡ n → c * n ≡ c * a + c * b
       parts a b n e = ap (λ (k : ℕ). c * k) (sym e) ∙ mul-add c a b

@@ -32,8 +32,8 @@ use Rattle.eqfile.specs.Turn.{late}
 
 -- every call has the same gains
 unfoldable pub SameGains : List ℤ → List Call → Type 0
-SameGains gains [] = Unit {0}
-SameGains gains (c ∷ cs) = (c.gains ≡ gains) × SameGains gains cs
+SameGains of_all [] = Unit {0}
+SameGains of_all (c ∷ cs) = (c.gains ≡ of_all) × SameGains of_all cs
 
 -- the samples of the file and the zeros that follow
 abbrev pub followed : List ℤ → List ℤ

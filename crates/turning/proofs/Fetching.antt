@@ -5,14 +5,10 @@ use Prim.Native.Nat.{ℕ, ◌+◌, ◌-◌, ◌≤◌, ◌<◌, min}
 use native.Mathlib.Decide.{dec_lt}
 use native.Mathlib.Omega.{arith}
 use borrow.Rule.Slice.PartMut.{put_mid}
-use mir.Syntax.{w8}
-use mir.Val.{Fits}
-use lib.ListN.{length, get_or, take, drop, length-append, length-take, length-drop}
+use lib.ListN.{length, take, drop, length-append, length-take, length-drop}
 use lib.Seq.{take_all, take_at, take-append-add, take-append-le, length-take-le}
-use Rattle.fields.specs.Bytes as fields
 use Rattle.eqfile.specs.Front.{carry_of}
 use Rattle.runs.specs.Program.{Fetched}
-use Rattle.fields.proofs.Numbers.{bytes_take}
 
 take-least : (n m : ℕ) (l : List ℕ) → n ≡ min (length l) m → take n l ≡ take m l
 take-least n m l e = by (dec_lt m (length l))
@@ -41,9 +37,8 @@ module _ (front bytes : List ℕ) (from had : ℕ) (held : List ℕ) (e : (had, 
   carried-within = omega (arith, held_long, had_is)
 
   pub came_in : (got : ℕ) (new : List ℕ) → got ≤ length new → length new ≡ length (take (length held - had) (drop had held)) →
-      ((i : ℕ) → Fits w8 (get_or (put_mid had (length held - had) held new) i 0)) →
-      let piece = take (had + got) (put_mid had (length held - had) held new) in Fetched front from (length bytes) piece × ((had + got ≤ length bytes) × fields.Bytes piece)
-  came_in got new g l each =
+      Fetched front from (length bytes) (take (had + got) (put_mid had (length held - had) held new))
+  came_in got new g l =
       let rest = drop (length held - had) (drop had held) in
       let whole = put_mid had (length held - had) held new in
       let first : take had held ≡ take had (drop from front) = ap (take had) held_is ∙ take_at (take had (drop from front)) (drop had bytes) had carried_long in
@@ -52,4 +47,4 @@ module _ (front bytes : List ℕ) (from had : ℕ) (held : List ℕ) (e : (had, 
       let is : take (had + got) whole ≡ take (length bytes) (drop from front) ++ take got new =
       ap (λ (k : ℕ). take (k + got) whole) (sym long) ∙ take-append-add (take had held) (new ++ rest) got ∙
       ap₂ ◌++◌ (first ∙ take-least had (length bytes) (drop from front) had_is) (take-append-le got new rest g) in
-      (record { more = take got new; is = is; most = omega (arith, length-take (had + got) whole) }, (most, bytes_take (had + got) whole (λ i. omega (arith, each i))))
+      record { more = take got new; is = is; most = omega (arith, length-take (had + got) whole) }

@@ -9,17 +9,16 @@ use samples::Channels;
 
 // Four bytes for each sample of a block: as many as a format has at most.
 pub const BYTES: usize = 4 * TURN_ROOM;
-// The memory length of eight bands and one channel.
-const ONE: usize = 8067;
-// .. and of two channels: the places for the line memory of any run.
-pub const PLACES: usize = 16131;
+// Of the line memory of eight bands, what stands before the sides, and the places of each.
+const HEAD: usize = 3;
+
+const SIDE: usize = 8064;
+// .. and the places of two channels, which serve any run.
+pub const PLACES: usize = HEAD + 2 * SIDE;
 
 // How many of them a file's channels take.
 pub fn places(channels: Channels) -> usize
     ensures { result ≡ memory_length bands (count_of channels) }
 {
-    match channels {
-        Channels::One => ONE,
-        Channels::Two => PLACES,
-    }
+    HEAD + channels.count() as usize * SIDE
 }

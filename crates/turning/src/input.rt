@@ -22,6 +22,7 @@ pub fn fill(stdin: &mut impl Read, bytes: &mut [u8]) -> usize
 }
 
 // The data bytes that a turn wants: those of the front from a place on, then those of standard input. Answers how many there were.
+#[tactic(auto, unfolding(eqfile::specs::Front::carry_of))]
 pub fn fetch(stdin: &mut impl Read, front: &[u8], from: usize, bytes: &mut [u8]) -> usize
     ensures fetched { Fetched front.now from (length bytes.old) (take result bytes.new) }
     ensures upper_bound { result ≤ length bytes.old }
