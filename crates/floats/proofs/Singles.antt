@@ -6,7 +6,7 @@ use Prim.Native.Nat.{ℕ, ◌<◌}
 use lib.Dec.{eqb}
 use lib.IntN.{ℤ, pos}
 use lib.Ieee.{Float, nan}
-use lib.ListN.{length, get_or, get_or-map}
+use lib.ListN.{length, get_or}
 use borrow.Author.Tests.{eqb-true}
 use Rattle.answers.specs.Answer.{accepted}
 use Rattle.answers.specs.Checks.{Outcome, all_hold}
@@ -17,6 +17,7 @@ use Rattle.answers.proofs.Laws.{and_left, and_right, accepted_holds, all_accept}
 use Rattle.floats.specs.Value.{float_sample}
 use Rattle.floats.specs.Block.{is_sample, is_number, sample_or0, samples_of, float_checks, from_floats, float_block_answer}
 use Rattle.std.specs.Prelude.{Result, Ok, Err}
+use Rattle.floats.proofs.Taking.{sample_at}
 use Rattle.floats.specs.declared.code.NotNumber.{NotNumber}
 use Rattle.floats.specs.declared.block.FloatsError.{FloatsError}
 
@@ -24,11 +25,6 @@ use Rattle.floats.specs.declared.block.FloatsError.{FloatsError}
 is_sample_lem : (r : Result ℤ NotNumber) → is_sample r ≡ true → r ≡ Ok (sample_or0 r)
 is_sample_lem (Ok z) e = refl
 is_sample_lem (Err f) e = absurd (false≢true e)
-
--- past the end there is 0
-at_place : (values : List Float) (i : ℕ) → get_or (samples_of values) i (pos 0) ≡ sample_or0 (float_sample (get_or values i nan))
-unfolding float_sample
-at_place values i = get_or-map (λ (x : Float). sample_or0 (float_sample x)) values i nan
 
 -- what an accepted block is
 pub record Accepted (values : List Float) (samples : List ℤ) (n : ℕ) : Type 0 where
@@ -63,4 +59,4 @@ pub each_single : (values : List Float) (samples : List ℤ) (n : ℕ) → float
 each_single values samples n e i h =
     let a = accepted_is values samples n e in
     is_sample_lem (float_sample (get_or values i nan)) (all_at is_number nan values a.numbers i (rw a.count at h))
-    ∙ ap Ok (sym (at_place values i) ∙ ap (λ (s : List ℤ). get_or s i (pos 0)) (sym a.lent))
+    ∙ ap Ok (sym (sample_at values i) ∙ ap (λ (s : List ℤ). get_or s i (pos 0)) (sym a.lent))

@@ -38,6 +38,7 @@ fn first_bad(values: &[f32]) -> Option<usize>
         .position(|value| sample_from_float(*value).is_err())
 }
 
+// By places: of what `iter_mut().zip(..)` wrote the library has no fact.
 fn take_all(values: &[f32], samples: &mut [i32])
     requires { length samples.old ≡ length values.now }
     ensures { samples.new ≡ samples_of values.now }

@@ -1,16 +1,16 @@
 -- Bytes to samples by the block: the laws of `samples_of`, and what a turn of the loop keeps. Assumes nothing.
 use mathlib.Core.Path.{◌≡◌, refl, sym, ap, ap₂, ◌∙◌, subst}
 use mathlib.Core.Bool.{true}
-use mathlib.Core.List.{List, [], ◌∷◌, ◌++◌}
+use mathlib.Core.List.{List}
 use Prim.Native.Nat.{ℕ, zero, suc, ◌+◌, ◌*◌, ◌/◌, ◌%◌, ◌<◌}
 use native.Mathlib.Nat.{le_of_suc-le-suc, not-suc-le-zero, mul-zero}
-use native.Mathlib.Numerals.{add-one}
 use native.Mathlib.Omega.{arith}
 use lib.ListN.{length, get_or, take, drop, set}
-use lib.Seq.{take_all, drop-drop, take-suc, take-suc-set}
+use lib.Seq.{take_all, drop-drop}
 use lib.IntN.{ℤ, pos}
 use borrow.Author.Tests.{eq-eqb}
 use Rattle.answers.specs.Checks.{decide, Done}
+use Rattle.floats.proofs.Taking.{one_more}
 use Rattle.samples.specs.Sample.{sample_in}
 use Rattle.samples.specs.Samples.{samples_of, all_samples, block_from}
 use Rattle.samples.specs.Format.{size_of}
@@ -41,11 +41,9 @@ pub taking_turn : (format : Format) (s : List ℕ) (n m k : ℕ) (new : List ℤ
     (j < n) × ((i ≡ j) × (p ≡ take (size_of format) (drop (size_of format * j) s))) → v ≡ sample_in format p → take k (set new i v) ≡ take k (samples_of m format s)
 taking_turn format s n m k new j i p v t h e f g w =
     let l : j < length (samples_of n format s) = subst (λ (x : ℕ). j < x) (sym (length-samples n format s)) g.0 in
-    ap₂ (λ (x y : ℕ). take x (set new y v)) (e ∙ add-one j) g.1.0
-    ∙ take-suc-set new j v h
-    ∙ ap₂ (λ (r : List ℤ) (x : ℤ). r ++ (x ∷ [])) t (w ∙ ap (sample_in format) g.1.1 ∙ sym (samples_at n format s j g.0))
-    ∙ sym (take-suc (samples_of n format s) j (pos 0) l)
-    ∙ ap₂ (λ (x y : ℕ). take x (samples_of y format s)) (sym (e ∙ add-one j)) (sym f)
+    ap₂ (λ (x y : ℕ). take x (set new y v)) e g.1.0
+    ∙ one_more (samples_of n format s) new j v t l h (w ∙ ap (sample_in format) g.1.1 ∙ sym (samples_at n format s j g.0))
+    ∙ ap₂ (λ (x y : ℕ). take x (samples_of y format s)) (sym e) (sym f)
 
 -- all are
 pub taking_end : (format : Format) (s : List ℕ) (n : ℕ) (new : List ℤ) (j m : ℕ) → take j new ≡ take j (samples_of m format s) → length new ≡ n → m ≡ n → j ≡ n →

@@ -61,6 +61,7 @@ fn first_bad(bytes: &[u8], format: Format) -> Option<usize>
     }
 }
 
+// By places: of what `iter_mut().zip(..)` wrote the library has no fact.
 fn take_all(bytes: &[u8], format: Format, samples: &mut [i32])
     requires { length bytes.now ≡ size_of format * length samples.old }
     ensures { samples.new ≡ samples_of (length samples.old) format bytes.now }
@@ -92,6 +93,7 @@ pub fn bytes_to_samples(
     Ok(samples.len())
 }
 
+// By places: of what `chunks_exact_mut` wrote the library has no fact.
 fn store_all(samples: &[i32], buffer: &mut [u8])
     requires { (length buffer.old ≡ 3 * length samples.now) × (all_within least_sample most_sample samples.now ≡ true) }
     ensures { buffer.new ≡ bytes_of samples.now }
