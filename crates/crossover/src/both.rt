@@ -3,7 +3,7 @@ ghost use Rattle.std.specs.Prelude.{◌≡◌, ◌≤◌, length};
 ghost use Rattle.crossover.specs.Cross.{crossed};
 ghost use Rattle.crossover.specs.Helpers.{FromOn, Ready};
 
-use octave::memory::Counts;
+use octave::counts::Counts;
 use octave::pass::pass;
 
 // The gains from place `from` on, each in its place; 0 before it.

@@ -5,8 +5,9 @@ ghost use Rattle.octave.specs.declared.block.BlockError.TheVariants.{Memory};
 ghost use Rattle.octave.specs.Block.{of_input, equalised, block_of};
 ghost use Rattle.octave.specs.Helpers.{Judged};
 
+use crate::counts::Counts;
 use crate::input::{InputError, judge_input};
-use crate::memory::{Counts, Fault, judge};
+use crate::memory::{Fault, judge};
 use crate::pass::pass;
 use answers::range::first_outside;
 use answers::unit::LARGEST_GAIN;

@@ -2,7 +2,7 @@
 ghost use Rattle.std.specs.Prelude.{◌≡◌};
 ghost use Rattle.octave.specs.Input.{input_of};
 
-use crate::memory::Counts;
+use crate::counts::Counts;
 use answers::range::first_outside;
 use answers::unit::{BLOCK_LIMIT, LEAST_SAMPLE, MOST_SAMPLE};
 use frames::count::{frames_in, whole_frames};

@@ -2,6 +2,7 @@
 #![tactic(auto)]
 
 pub mod block;
+pub mod counts;
 pub mod input;
 mod layout;
 pub mod memory;

@@ -1,8 +1,8 @@
 // One pass of a block's samples through the lines. A helper of the calls, which have judged everything: it `requires` that.
 ghost use Rattle.octave.specs.Helpers.{Judged, JudgedAgain, Passed};
 
+use crate::counts::Counts;
 use crate::layout::{HEAD, POSITION};
-use crate::memory::Counts;
 use block_sides::run::run;
 
 // The samples through the lines from the position on, and the position afterwards; the output under `gains`, and in the same pass, where there are

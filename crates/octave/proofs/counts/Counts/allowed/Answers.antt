@@ -6,7 +6,7 @@ use Rattle.answers.proofs.Laws.{chosen_here, chosen_on, chosen_last}
 use Rattle.octave.specs.declared.memory.CountError.{CountError}
 use Rattle.octave.specs.Counts.{Counts}
 use Rattle.octave.specs.Memory.{count_allowed, channels_allowed}
-use Rattle.octave.proofs.memory.Counts.allowed.Goals as goal
+use Rattle.octave.proofs.counts.Counts.allowed.Goals as goal
 
 abbrev made : (bands channels : ℤ) → Result Counts CountError
 made bands channels = Ok (record { bands = nat_abs bands; channels = nat_abs channels })
