@@ -1,4 +1,4 @@
-// The gain commands.
+// The gain commands: three exports, since a C enum with floats has no form here.
 ghost use Rattle.std.specs.Prelude.{◌≡◌};
 ghost use Rattle.gain.specs.Answer.{answer_of};
 ghost use Rattle.gain.specs.Promise.{command_gain};

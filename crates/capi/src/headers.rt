@@ -11,7 +11,7 @@ ghost use Rattle.capi.specs.Private.{StartFits};
 use encoding::code::count;
 use wave::{Found, Refusal};
 
-// What was found goes to the five places; a refusal stores nothing.
+// What was found goes to the five places; a refusal stores nothing. They are one pointer in C, so no struct.
 fn store(answer: Result<Found, Refusal>, found: &mut [u32; 5])
     requires { StartFits (found_answer answer) }
     ensures { found.new ≡ found_after (found_answer answer) found.old }

@@ -34,7 +34,7 @@ const ENDS: [u32; 7] = [
     0x00000000, 0x007fffff, 0x3f800000, 0x40800000, 0x41480000, 0x7f800000, 0x7fc00000,
 ];
 
-// A gain without its sign, or its refusal.
+// A gain without its sign, or its refusal. The like of reading_calls' `answer`: all that differs is what is made of the value.
 fn unsigned(gained: Result<i32, GainError>) -> Result<u64, Refused>
     ensures { numbered result ≡ with_value unsigned_abs (answer_of gained) }
 {
