@@ -12,9 +12,18 @@ use frames::count::frames_in;
 use frames::sides::Side;
 use lines::cascade::cascade;
 use lines::row::ROW;
-use ring::line::Ring;
 use weighing::rows::{weigh_rows, weigh_with};
 use weighing::weights::Weights;
+
+// A block of samples for the lines of so many bands: its gains, and those of a second weighing, none where none is asked for.
+#[derive(Clone, Copy)]
+pub struct Block<'a> {
+    pub bands: usize,
+    pub gains: &'a [i32],
+    pub others: &'a [i32],
+    pub input: &'a [i32],
+    pub ghost allowed: { Allowed bands gains.now },
+}
 
 // How many samples the next row has: not past the matrix, the block or the ring's end.
 fn row_length(size: usize, at: usize, left: usize) -> usize
@@ -47,32 +56,36 @@ fn side_row(
     ensures { RowsDone (rowed published size (bands - 1) 1 at lines.old (side_numbers side.channels side.s n input.now)) n lines.new rows.new }
 {
     side.gather(input, n, rows);
-    cascade(lines, Ring { size, at, l: 1 }, bands, n, rows);
+    cascade(lines, size, at, 1, bands, n, rows);
 }
 
-// Every sample of one side, from the position `from`, in the matrix lent, weighed with `gains` into the output; where there are other gains, each row is
-// weighed with them too, into the second output. Answers the position afterwards.
+// Every sample of one side of the block, from the position `from`, in the matrix lent, weighed with its gains into the output; where there are other
+// gains, each row is weighed with them too, into the second output. Answers the position afterwards.
 pub fn each_row(
     lines: &mut [i32],
     size: usize,
     from: usize,
-    bands: usize,
-    gains: &[i32],
-    others: &[i32],
+    block: &Block,
     side: Side,
-    input: &[i32],
     rows: &mut [i32],
     output: &mut [i32],
     second: &mut [i32],
 ) -> usize
-    requires { Region published bands size 1 lines.old × (from < size) × Allowed bands gains.now × Second bands others.now input.now second.old × (length output.old ≡ length input.now) × (length input.now % side.channels ≡ 0) × (row_places * bands ≤ length rows.old) }
-    ensures { BothDone side.channels side.s (run published size (bands - 1) from lines.old (side_of side.channels side.s input.now)) gains.now others.now lines.new result output.old output.new second.old second.new }
+    requires { Region published block.now.bands size 1 lines.old × (from < size) × Second block.now.bands block.now.others.now block.now.input.now second.old × (length output.old ≡ length block.now.input.now) × (length block.now.input.now % side.channels ≡ 0) × (row_places * block.now.bands ≤ length rows.old) }
+    ensures { BothDone side.channels side.s (run published size (block.now.bands - 1) from lines.old (side_of side.channels side.s block.now.input.now)) block.now.gains.now block.now.others.now lines.new result output.old output.new second.old second.new }
 {
+    let Block {
+        bands,
+        gains,
+        others,
+        input,
+    } = *block;
     let weights = Weights::of(gains);
     let twice = 0 < others.len();
     let frames = frames_in(input.len(), side.channels);
     let mut at = from;
     let mut i = 0;
+    // A row's length varies, so that the loop is no `for`.
     while i < frames {
         let n = row_length(size, at, frames - i);
         let first = side.channels * i;

@@ -8,7 +8,7 @@ ghost use Rattle.weighing.specs.Helpers.{Allowed};
 ghost use Rattle.block_rows.specs.Helpers.{Second};
 ghost use Rattle.block_sides.specs.Helpers.{Sides, BothSidesDone};
 
-use block_rows::run::each_row;
+use block_rows::run::{Block, each_row};
 use frames::sides::Side;
 
 // The places of ten rows, and of four: few bands clear few places.
@@ -21,42 +21,35 @@ fn each_side<const PLACES: usize>(
     lines: &mut [i32],
     size: usize,
     from: usize,
-    bands: usize,
+    block: &Block,
     channels: usize,
-    gains: &[i32],
-    others: &[i32],
-    input: &[i32],
     output: &mut [i32],
     second: &mut [i32],
 ) -> usize
-    requires { Sides bands size channels lines.old input.now output.old × (from < size) × Allowed bands gains.now × Second bands others.now input.now second.old × (row_places * bands ≤ PLACES) × (PLACES ≤ row_places * 10) }
-    ensures { BothSidesDone channels (length input.now / channels) (λ s. run published size (bands - 1) from (places_of ((bands - 1) * size) s lines.old) (side_of channels s input.now)) gains.now others.now lines.new result output.new second.new }
+    requires { Sides block.now.bands size channels lines.old block.now.input.now output.old × (from < size) × Second block.now.bands block.now.others.now block.now.input.now second.old × (row_places * block.now.bands ≤ PLACES) × (PLACES ≤ row_places * 10) }
+    ensures { BothSidesDone channels (length block.now.input.now / channels) (λ s. run published size (block.now.bands - 1) from (places_of ((block.now.bands - 1) * size) s lines.old) (side_of channels s block.now.input.now)) block.now.gains.now block.now.others.now lines.new result output.new second.new }
 {
-    let places = (bands - 1) * size;
     let mut rows = [0; PLACES];
+    let places = (block.bands - 1) * size;
+    let left = Side { channels, s: 0 };
     let at = each_row(
         &mut lines[..places],
         size,
         from,
-        bands,
-        gains,
-        others,
-        Side { channels, s: 0 },
-        input,
+        block,
+        left,
         &mut rows,
         output,
         second,
     );
     if channels == 2 {
+        let right = Side { channels, s: 1 };
         each_row(
             &mut lines[places..],
             size,
             from,
-            bands,
-            gains,
-            others,
-            Side { channels, s: 1 },
-            input,
+            block,
+            right,
             &mut rows,
             output,
             second,
@@ -81,13 +74,15 @@ pub fn run(
     requires { Sides bands size channels lines.old input.now output.old × (from < size) × Allowed bands gains.now × Second bands others.now input.now second.old }
     ensures { BothSidesDone channels (length input.now / channels) (λ s. run published size (bands - 1) from (places_of ((bands - 1) * size) s lines.old) (side_of channels s input.now)) gains.now others.now lines.new result output.new second.new }
 {
+    let block = Block {
+        bands,
+        gains,
+        others,
+        input,
+    };
     if bands <= 4 {
-        each_side::<FOUR_ROWS>(
-            lines, size, from, bands, channels, gains, others, input, output, second,
-        )
+        each_side::<FOUR_ROWS>(lines, size, from, &block, channels, output, second)
     } else {
-        each_side::<TEN_ROWS>(
-            lines, size, from, bands, channels, gains, others, input, output, second,
-        )
+        each_side::<TEN_ROWS>(lines, size, from, &block, channels, output, second)
     }
 }

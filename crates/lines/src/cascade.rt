@@ -11,25 +11,26 @@ use ring::line::Ring;
 // doubled, which works only in the rest of the lines, behind this one; the low row of two bands is band 1 itself.
 pub fn cascade(
     lines: &mut [i32],
-    ring: Ring,
+    size: usize,
+    at: usize,
+    l: usize,
     bands: usize,
     n: usize,
     rows: &mut [i32],
 )
-    requires { RowRegion published bands ring.size ring.at ring.l n lines.old rows.old }
-    ensures { RowsDone (rowed published ring.size (bands - 1) ring.l ring.at lines.old (take n rows.old)) n lines.new rows.new }
+    requires { RowRegion published bands size at l n lines.old rows.old }
+    ensures { RowsDone (rowed published size (bands - 1) l at lines.old (take n rows.old)) n lines.new rows.new }
 {
     if bands == 1 {
         return;
     }
-    line_over(lines, ring, n, rows);
-    let below = Ring {
-        l: 2 * ring.l,
-        ..ring
-    };
+    line_over(lines, Ring { size, at, l }, n, rows);
+    // Three numbers, and no `Ring`: handed on by its place it keeps the recursion from being a loop, and a block of one sample takes a tenth longer.
     cascade(
-        &mut lines[ring.size..],
-        below,
+        &mut lines[size..],
+        size,
+        at,
+        2 * l,
         bands - 1,
         n,
         &mut rows[ROW..],

@@ -43,12 +43,7 @@ fn up_to(end: usize, at: usize, n: usize) -> usize
 }
 
 // A whole row of n samples: the parts where taps wrap come first.
-pub(crate) fn line_over(
-    lines: &mut [i32],
-    ring: Ring,
-    n: usize,
-    rows: &mut [i32],
-)
+pub(crate) fn line_over(lines: &mut [i32], ring: Ring, n: usize, rows: &mut [i32])
     requires { Part published lines.old ring.size ring.at ring.l 0 n rows.old }
     ensures { LineDone (line published ring.size ring.l ring.at lines.old (take n rows.old)) 0 n rows.old lines.new rows.new }
 {

@@ -7,8 +7,9 @@ use Rattle.block_rows.proofs.run.each_row.Given as goal
 
 abbrev pub invariant-loop-i : goal.invariant-loop-i
 invariant-loop-i l =
-    Going l.bands l.size l.from l.side.channels l.side.s l.frames (gain_of l.gains) l.initial.lines l.input l.initial.rows l.initial.output l.lines l.rows l.output l.at l.i ×
-    (Asked l.others → Going l.bands l.size l.from l.side.channels l.side.s l.frames (gain_of l.others) l.initial.lines l.input l.initial.rows l.initial.second l.lines l.rows l.second l.at l.i) ×
+    let b = l.block in
+    Going b.bands l.size l.from l.side.channels l.side.s l.frames (gain_of b.gains.now) l.initial.lines b.input.now l.initial.rows l.initial.output l.lines l.rows l.output l.at l.i ×
+    (Asked b.others.now → Going b.bands l.size l.from l.side.channels l.side.s l.frames (gain_of b.others.now) l.initial.lines b.input.now l.initial.rows l.initial.second l.lines l.rows l.second l.at l.i) ×
     (length l.second ≡ length l.initial.second)
 
 abbrev pub decreases-loop-i : goal.decreases-loop-i
