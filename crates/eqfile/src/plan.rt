@@ -1,5 +1,5 @@
 // The plan of a run: what its turns go by, and what it comes to in all.
-ghost use Rattle.std.specs.Prelude.{◌≡◌, ◌*◌};
+ghost use Rattle.std.specs.Prelude.{◌≡◌, ◌*◌, ◌<◌};
 ghost use Rattle.chunks.specs.Walk.{padding};
 ghost use Rattle.samples.specs.Channels.{count_of};
 ghost use Rattle.wave_values.specs.Values.{frame_size};
@@ -23,6 +23,13 @@ pub struct Plan {
 }
 
 impl Plan {
+    // The bytes of one frame of the file.
+    pub(crate) fn frame_bytes(self) -> usize
+        ensures { (result ≡ frame_size (count_of self.channels) self.format) × (result < 9) }
+    {
+        frame_size(self.channels, self.format) as usize
+    }
+
     // How many frames are fed in all.
     pub fn fed_in_all(self) -> usize
         ensures { result ≡ fed_in_all self.frames }
@@ -34,8 +41,7 @@ impl Plan {
     pub fn short(self, read: usize) -> usize
         ensures { result ≡ short_of (frame_size (count_of self.channels) self.format) self.frames read }
     {
-        let size = frame_size(self.channels, self.format) as usize;
-        (size * self.frames as usize).saturating_sub(read)
+        (self.frame_bytes() * self.frames as usize).saturating_sub(read)
     }
 
     // How many bytes of padding follow the last sample that is written.

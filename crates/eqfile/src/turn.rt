@@ -6,7 +6,6 @@ ghost use Rattle.eqfile.specs.Turn.{all_read, wanted_of, turn_of};
 
 use crate::plan::{LATE, Plan};
 use answers::unit::TURN_LIMIT;
-use wave_values::frame_size;
 
 // A turn of the run, one block: how many frames are fed, how many bytes are to be read for them, how many of their outputs are dropped, and how many bytes
 // the others make.
@@ -23,8 +22,7 @@ impl Plan {
     fn all_read(self, at: usize, read: usize) -> bool
         ensures { result ≡ all_read (frame_size (count_of self.channels) self.format) self.frames at read }
     {
-        let size = frame_size(self.channels, self.format) as usize;
-        read == size * at.min(self.frames as usize)
+        read == self.frame_bytes() * at.min(self.frames as usize)
     }
 
     // The bytes to read for the block at `at`: none once the data has ended.
@@ -35,8 +33,7 @@ impl Plan {
         if !self.all_read(at, read) {
             return 0;
         }
-        let size = frame_size(self.channels, self.format) as usize;
-        size * fed.min((self.frames as usize).saturating_sub(at))
+        self.frame_bytes() * fed.min((self.frames as usize).saturating_sub(at))
     }
 
     // The turn after `at` frames were fed and `read` bytes of data were read.

@@ -1,4 +1,4 @@
--- How the program begins: nothing is known of the bytes that standard input hands over, so there are some.
+-- How the program begins, and what a run of it comes to: nothing is known of the bytes that standard input hands over, so there are some.
 use Rattle.std.specs.Prelude.{List, ℕ, ◌≤◌, length, replicate, ℤ, pos, Option, Result, Ok, Err}
 use Rattle.answers.specs.Unit.{front_length}
 use Rattle.arguments.specs.Arguments.{bands}

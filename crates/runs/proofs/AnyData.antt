@@ -9,6 +9,7 @@ use native.Mathlib.Nat.{sub-zero, mul-zero, mul-add}
 use native.Mathlib.Omega.{arith}
 use lib.ListN.{length, take, drop, length-take, length-drop, take-append-drop, drop_of_length-le}
 use lib.Seq.{get_or-drop, drop-nil, length-take-le}
+use Rattle.std.proofs.lemmas.List.{nil_from_length}
 use lib.IntN.{ℤ}
 use Rattle.samples.specs.declared.channels.Channels.{Channels}
 use Rattle.samples.specs.declared.format.Format.{Format}
@@ -17,7 +18,6 @@ use Rattle.fields.proofs.Numbers.{bytes_take}
 use Rattle.eqfile.specs.Turn.{fed_in_all, wanted_of, turn_of}
 use Rattle.runs.specs.Program.{State, fresh, Arrives, handed, frame_bytes, turn_at, turn_numbers, next, after, Followed, ByPlan}
 use Rattle.runs.specs.Stopped.{Stops}
-use Rattle.runs.proofs.BlockCalls.{no_length}
 use Rattle.runs.proofs.AllAsked.{wanted_is, both, start_is}
 
 -- ---- the bytes
@@ -64,7 +64,7 @@ module _ (gains : List ℤ) (format : Format) (channels : Channels) (frames : �
   run_hands zero s d (e, l) h =
       let z : frames - s.at ≡ 0 = omega arith in
       let size = frame_bytes format channels in
-      sym (no_length d (omega (arith, ap (λ (k : ℕ). size * k) z ∙ mul-zero size)))
+      sym (nil_from_length d (omega (arith, ap (λ (k : ℕ). size * k) z ∙ mul-zero size)))
   run_hands (suc k) s d r h =
       let t = turn_at format channels frames s in
       let w = t.wanted in

@@ -9,6 +9,7 @@ use native.Mathlib.Omega.{arith}
 use native.Mathlib.Decide.{dec_lt}
 use borrow.Author.Tests.{eqb-true}
 use lib.ListN.{length, replicate, length-append}
+use Rattle.std.proofs.lemmas.List.{nil_from_length}
 use lib.IntN.{ℤ, pos}
 use Rattle.samples.specs.Channels.{count_of}
 use Rattle.samples.specs.declared.channels.Channels.{Channels}
@@ -67,10 +68,6 @@ last_piece size frames at read fed got r own = by (dec_lt got (size * fed)) (dec
 pub by_samples : (count each n : ℕ) → count * each * n ≡ each * (count * n)
 by_samples count each n = omega arith
 
-pub no_length : {A : Type 0} (s : List A) → length s ≡ 0 → s ≡ []
-no_length [] e = refl
-no_length (a ∷ s) e = absurd (omega arith)
-
 module _ (gains : List ℤ) (format : Format) (channels : Channels) (frames : ℕ) where
   pub over_nothing : (s : State) (us : List (List ℕ)) → Over (frame_bytes format channels) frames s.at s.read → Followed gains format channels frames s us → handed us ≡ []
   unfolding Followed handed turn_of
@@ -80,7 +77,7 @@ module _ (gains : List ℤ) (format : Format) (channels : Channels) (frames : �
       let fed = (turn_at format channels frames s).fed in
       let z : length u ≡ 0 = omega (arith, h.0.arrives.read_most, over_none size frames s.at s.read fed o) in
       let o' : Over size frames (s.at + fed) (s.read + length u) = rw z (over_stays size frames s.at s.read fed o) in
-      ap₂ ◌++◌ (no_length u z) (over_nothing (next gains format channels frames s u) us o' h.1)
+      ap₂ ◌++◌ (nil_from_length u z) (over_nothing (next gains format channels frames s u) us o' h.1)
 
   -- never more bytes are read than those of the frames fed
   pub read-within : (s : State) (us : List (List ℕ)) → s.read ≤ frame_bytes format channels * min s.at frames → Followed gains format channels frames s us →

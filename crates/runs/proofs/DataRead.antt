@@ -8,13 +8,14 @@ use native.Mathlib.Omega.{arith}
 use native.Mathlib.Decide.{dec_lt}
 use lib.ListN.{length, take, drop, length-append, drop_of_length-le}
 use lib.Seq.{take_all, take_at, take-add, take-nil, take-append-add, drop-drop, length-take-le}
+use Rattle.std.proofs.lemmas.List.{nil_from_length}
 use lib.IntN.{ℤ}
 use Rattle.samples.specs.declared.channels.Channels.{Channels}
 use Rattle.samples.specs.declared.format.Format.{Format}
 use Rattle.eqfile.specs.Turn.{turn_of, short_of}
 use Rattle.runs.specs.Program.{State, fresh, handed, frame_bytes, turn_at, next, after, Followed, ByPlan, AllFetched}
 use Rattle.runs.specs.Started.{Started}
-use Rattle.runs.proofs.BlockCalls.{no_length, handed-within}
+use Rattle.runs.proofs.BlockCalls.{handed-within}
 use Rattle.runs.proofs.AllAsked.{wanted_is, both, start_is}
 use Rattle.runs.proofs.Starting.{stated}
 
@@ -56,7 +57,7 @@ one_turn all read w there u more rest most is few on = by (dec_lt w (length (dro
     by : Dec (w < length here) → take (length (Left all read there)) (u ++ rest) ≡ Left all read there
     by (yes h) =
         let long : length (take w here) ≡ w = length-take-le w here (omega arith) in
-        let none : more ≡ [] = no_length more (omega (arith, ap length is, length-append (take w here) more)) in
+        let none : more ≡ [] = nil_from_length more (omega (arith, ap length is, length-append (take w here) more)) in
         let u-is : u ≡ take w here = is ∙ ap (λ (l : List ℕ). take w here ++ l) none ∙ append-nil (take w here) in
         let next : drop w here ≡ drop (read + w) there = drop-drop w read there in
         let cut : all - read ≡ w + (all - (read + w)) = omega arith in

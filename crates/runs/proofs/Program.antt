@@ -7,6 +7,7 @@ use native.Mathlib.Decide.{dec_lt}
 use native.Mathlib.Omega.{arith}
 use lib.ListN.{length, drop, replicate, length-append, length-replicate, drop_of_length-le}
 use lib.Seq.{drop-nil, drop-length, drop-append-le, drop-append-add}
+use Rattle.std.proofs.lemmas.List.{nil_from_length}
 use lib.IntN.{ℤ}
 use Rattle.std.specs.Prelude.{Option, Some}
 use Rattle.frames.specs.Frames.{side_of}
@@ -34,7 +35,7 @@ use Rattle.runs.specs.Program.{State, fresh, Follows, handed, turn_at, turn_samp
 use Rattle.runs.specs.Started.{body_of}
 use Rattle.runs.proofs.Written.{SameGains}
 use Rattle.runs.proofs.EachSide.{frames_so_far, frames_written}
-use Rattle.runs.proofs.BlockCalls.{no_length, calls, calls_so_far, calls_join}
+use Rattle.runs.proofs.BlockCalls.{calls, calls_so_far, calls_join}
 use Rattle.runs.proofs.NeverRefused.{Ready, prepared_ready, BlockTaken, Allowed, block_taken}
 use Rattle.runs.proofs.SamplesInPieces.{length_from}
 use Rattle.runs.proofs.InRange.{from-within}
@@ -183,7 +184,7 @@ module _ (texts : List (List ℕ)) (gains : List ℤ) (taken : arguments_of text
           let few : c * at ≤ c * late = mul-le-mul_left c (omega arith) in
           let long : length out ≡ c * at = as_long bands c 0 (few_channels channels).0 cs accepts ∙ ap length fed ∙ length_from (c * at) format (handed us) in
           drop_of_length-le out {i = c * late} (omega arith) ∙
-          sym (no_length (frames_out gains channels (at - late) xs) (woven-length c (at - late) (λ s. outputs_of gains (at - late) (side_of c s xs)) ∙ ap (λ (n : ℕ). c * n) none ∙ mul-zero c))
+          sym (nil_from_length (frames_out gains channels (at - late) xs) (woven-length c (at - late) (λ s. outputs_of gains (at - late) (side_of c s xs)) ∙ ap (λ (n : ℕ). c * n) none ∙ mul-zero c))
 
   module _ (turns : ByPlan gains format channels frames (fresh channels) us) where
     -- no block call of a run is refused

@@ -9,11 +9,11 @@ use samples::Channels;
 
 // Four bytes for each sample of a block: as many as a format has at most.
 pub const BYTES: usize = 4 * TURN_ROOM;
-// Of the line memory of eight bands, what stands before the sides, and the places of each.
+// The places of a line memory before those of its sides.
 const HEAD: usize = 3;
-
+// .. and those of each side, with eight bands.
 const SIDE: usize = 8064;
-// .. and the places of two channels, which serve any run.
+// .. and all of two channels, which serve any run.
 pub const PLACES: usize = HEAD + 2 * SIDE;
 
 // How many of them a file's channels take.
