@@ -11,9 +11,9 @@ for path in sys.argv[1:]:
 
 
 def products(name):
-    body = bodies[name]
+    # What is not in these files is the library's: conversions and limits, without a product.
+    body = bodies.get(name, "")
     return body.count('{"Mul": "Signed"}') + sum(products(called) for called in re.findall(r'"Fn": \["([^"]+)"', body))
 
 
-for name in ("low_near", "low_far", "low_straight"):
-    print(f"{name}: {products('ring::line::' + name)} products as the compiler is handed them")
+print(f"a line's low sample: {products('ring::line::Line::low')} products as the compiler is handed them")
