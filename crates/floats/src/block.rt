@@ -49,6 +49,7 @@ fn take_all(values: &[f32], samples: &mut [i32])
 }
 
 // The samples of floats, one for each.
+#[tactic(auto, using(answers::proofs::Branches::judging), unfolding(crate::specs::Block::from_floats))]
 pub fn samples_from_floats(values: &[f32], samples: &mut [i32]) -> Result<usize, FloatsError>
     ensures { Done (from_floats values.now samples.old) result samples.new }
 {

@@ -72,6 +72,7 @@ fn take_all(bytes: &[u8], format: Format, samples: &mut [i32])
 }
 
 // The samples in bytes of a format, one after the other.
+#[tactic(auto, using(answers::proofs::Branches::judging, fields::proofs::ByTest::dividing), unfolding(crate::specs::Samples::block_from))]
 pub fn bytes_to_samples(
     bytes: &[u8],
     format: Format,
@@ -104,6 +105,7 @@ fn store_all(samples: &[i32], buffer: &mut [u8])
 }
 
 // Writes the three bytes of each sample, one after the other.
+#[tactic(auto, using(answers::proofs::Branches::judging), unfolding(crate::specs::Samples::block_to))]
 pub fn samples_to_bytes(samples: &[i32], buffer: &mut [u8]) -> Result<usize, StoreError>
     ensures { Done (block_to samples.now buffer.old) result buffer.new }
 {

@@ -81,6 +81,7 @@ pub fn sample_from_bytes(bytes: &[u8]) -> Result<i32, WrongLength>
 }
 
 // Writes a sample's three bytes.
+#[tactic(auto, using(answers::proofs::Branches::judging), unfolding(crate::specs::Sample::to_bytes))]
 pub fn sample_to_bytes(sample: i32, buffer: &mut [u8]) -> Result<usize, StoreError>
     ensures { Done (to_bytes sample buffer.old) result buffer.new }
 {

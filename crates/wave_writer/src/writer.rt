@@ -89,6 +89,7 @@ fn put_header(buffer: &mut [u8], rate: u32, size: u32, channels: Channels)
 }
 
 // Writes the header of `size` bytes of 24-bit samples at a rate, in one or two channels.
+#[tactic(auto, using(answers::proofs::Branches::judging, fields::proofs::ByTest::dividing), unfolding(crate::specs::Header::write_of))]
 pub fn write(buffer: &mut [u8], rate: u32, size: u32, channels: i32) -> Result<usize, WriteError>
     ensures { Done (write_of buffer.old rate size channels) result buffer.new }
 {

@@ -8,10 +8,6 @@ use Rattle.floats.specs.declared.block.FloatsError.TheVariants.{BadFloat}
 use Rattle.floats.proofs.Places.{found, found_none}
 use Rattle.floats.proofs.block.samples_from_floats.Goals as goal
 
-pub returns-then-samples-values : goal.returns-then-samples-values
-unfolding from_floats
-returns-then-samples-values c = search judging depth 12
-
 pub returns-in-Some : goal.returns-in-Some
 unfolding from_floats
 returns-in-Some c =

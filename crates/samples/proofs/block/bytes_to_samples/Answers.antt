@@ -1,7 +1,7 @@
 -- The checks in turn, then all samples.
 use Rattle.std.proofs.Common.{◌≡◌, ◌/◌, ◌∙◌, ap, sym, length}
 use Rattle.answers.proofs.Laws.{refuses_last, goes_on}
-use Rattle.answers.proofs.Branches.{branches, judging}
+use Rattle.answers.proofs.Branches.{branches}
 use Rattle.fields.proofs.ByTest.{dividing}
 use Rattle.samples.specs.Format.{size_of}
 use Rattle.samples.specs.Samples.{block_from}
@@ -9,14 +9,6 @@ use Rattle.samples.specs.declared.block.TakeError.TheVariants.{NotNumber}
 use Rattle.samples.proofs.Judging.{bad_there, none_bad}
 use Rattle.samples.proofs.Taking.{all_taken}
 use Rattle.samples.proofs.block.bytes_to_samples.Goals as goal
-
-pub returns-then-bytes-size-ne0 : goal.returns-then-bytes-size-ne0
-unfolding block_from
-returns-then-bytes-size-ne0 c = search (judging, dividing) depth 12
-
-pub returns-then-samples-bytes : goal.returns-then-samples-bytes
-unfolding block_from
-returns-then-samples-bytes c = search (judging, dividing) depth 12
 
 pub returns-in-Some : goal.returns-in-Some
 unfolding block_from

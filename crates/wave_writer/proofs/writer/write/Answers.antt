@@ -10,14 +10,6 @@ use Rattle.wave_writer.specs.Header.{write_of}
 use Rattle.wave_writer.proofs.Counts.{count_allowed_lem}
 use Rattle.wave_writer.proofs.writer.write.Goals as goal
 
-pub returns-then-buffer-ne-HEADER_BYTES : goal.returns-then-buffer-ne-HEADER_BYTES
-unfolding write_of
-returns-then-buffer-ne-HEADER_BYTES c = search judging depth 12
-
-pub returns-then-not-known_rate : goal.returns-then-not-known_rate
-unfolding write_of
-returns-then-not-known_rate c = search judging depth 12
-
 pub returns-in_default : goal.returns-in_default
 unfolding write_of
 returns-in_default c = let no : within fewest_channels most_channels c.args.channels ≡ false = rw (to_z-of_z c.ranges.channels) at c.in_default.ensures in search judging depth 12
