@@ -5,7 +5,7 @@ use mathlib.Core.List.{List, [], ◌∷◌, ◌++◌, append_assoc, append-nil}
 use Prim.Native.Nat.{ℕ, suc, ◌+◌, ◌-◌, ◌*◌, ◌^◌, ◌≤◌, ◌<◌}
 use native.Mathlib.Nat.{mul-zero, mul-add, mul-le-mul_left, sub-zero}
 use native.Mathlib.Omega.{arith}
-use borrow.Author.Tests.{lt-ltb, le-ltb, ltb-true}
+use borrow.Author.Tests.{ltb-true}
 use borrow.Rule.Slice.PartMut.{put_mid, same_len_mid}
 use lib.Dec.{ltb}
 use lib.ListN.{length, take, drop, length-drop}
@@ -16,7 +16,7 @@ use Rattle.frames.proofs.Laws.{side-length, side-add, side_front, put-side, put_
 use Rattle.tree.specs.Prototype.{published}
 use Rattle.lines.specs.Cascade.{Ran, run}
 use Rattle.lines.specs.Rows.{row_places, wrapped, rowed, columns}
-use Rattle.lines.specs.Helpers.{Region, RowRegion, RowsDone}
+use Rattle.lines.specs.Helpers.{Region, RowsDone}
 use Rattle.ring.proofs.Places.{published_centred}
 use Rattle.lines.proofs.Interchange.{rows_count, rows_even}
 use Rattle.lines.proofs.Turns.{turn}
@@ -25,12 +25,6 @@ use Rattle.weighing.specs.Helpers.{WeighedUnder}
 use Rattle.block_rows.specs.Helpers.{SideDone}
 
 -- ---- the position
-
-pub wrapped_in : (size at : ℕ) → at < size → at ≡ wrapped size at
-wrapped_in size at h = rw (lt-ltb at size h)
-
-pub wrapped_round : (size at : ℕ) → size ≤ at → 0 ≡ wrapped size at
-wrapped_round size at h = rw (le-ltb at size h)
 
 pub wrapped_inside : (size at : ℕ) → 0 < size → wrapped size at < size
 wrapped_inside size at h = by (ltb at size) refl
@@ -119,30 +113,14 @@ module _ {bands size from c s frames : ℕ} {g : ℕ → ℤ} {lines₀ input ro
   fewer : (n : ℕ) → n ≤ frames - i → c * (i + n) ≤ c * frames
   fewer n h = mul-le-mul_left {m = i + n} {n = frames} c (omega (arith, going.reached))
 
-  -- .. stand in the block, the start before the end
-  pub ends_inside : (n : ℕ) → n ≤ frames - i → (c * i ≤ c * (i + n)) × (c * (i + n) ≤ length input)
-  ends_inside n h = (omega (arith, mul-add c i n), omega (arith, whole, fewer n h))
-
   part_length : (n : ℕ) (xs : List ℤ) → length xs ≡ c * frames → n ≤ frames - i → length (take (c * (i + n) - c * i) (drop (c * i) xs)) ≡ c * n
   part_length n xs e h = rw (less n) (length-take-le (c * n) (drop (c * i) xs) (rw (length-drop (c * i) xs, e) (omega (arith, fewer n h, mul-add c i n))))
 
   output_whole : length output ≡ c * frames
   output_whole = going.same_output ∙ alike ∙ whole
 
-  pub in_length : (n : ℕ) → n ≤ frames - i → length (take (c * (i + n) - c * i) (drop (c * i) input)) ≡ c * n
-  in_length n = part_length n input whole
-
   pub out_length : (n : ℕ) → n ≤ frames - i → length (take (c * (i + n) - c * i) (drop (c * i) output)) ≡ c * n
   out_length n = part_length n output output_whole
-
-  pub row_region : (n : ℕ) → n ≤ row_places → at + n ≤ size → RowRegion published bands size at 1 n lines rows
-  row_region n short before =
-      record {
-        region = record { some = region.some; few = region.few; stretch = region.stretch; sized = region.sized; whole = going.same_lines ∙ region.whole; small = region.small };
-        short = short;
-        before_end = before;
-        room = rw going.same_rows room;
-      }
 
   -- one side of those frames, and of the frames behind them
   side_split : (t n : ℕ) (xs : List ℤ) → t < c → length xs ≡ c * frames → n ≤ frames - i → side c t (frames - i) (drop (c * i) xs) ≡

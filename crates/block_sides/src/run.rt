@@ -58,7 +58,7 @@ fn each_side<const PLACES: usize>(
     at
 }
 
-// Every sample of the block, from the position `from`; answers the position afterwards.
+// Every sample of the block, from the position `from`; answers the position afterwards. Its parameters are the block call's own; below they are a `Block`.
 pub fn run(
     lines: &mut [i32],
     size: usize,

@@ -1,8 +1,7 @@
 -- Loops that take a side out of frames, or put it back. Assumes nothing.
-use mathlib.Core.Path.{◌≡◌, refl, sym, ◌∙◌}
+use mathlib.Core.Path.{◌≡◌, sym, ◌∙◌}
 use mathlib.Core.List.{List, ◌++◌, append-nil}
 use Prim.Native.Nat.{ℕ, ◌+◌, ◌-◌, ◌*◌, ◌≤◌, ◌<◌}
-use native.Mathlib.Nat.{mul-zero, sub-zero}
 use native.Mathlib.Numerals.{add-one}
 use native.Mathlib.Decide.{dec_lt}
 use native.Mathlib.Omega.{arith}
@@ -21,9 +20,6 @@ pub record Gathering (c s n : ℕ) (block row₀ row : List ℤ) (i : ℕ) : Typ
   pub rest : take i row ++ side c s (n - i) (drop (c * i) block) ≡ side c s n block
 
 module _ (c s n : ℕ) (block row₀ : List ℤ) where
-  pub gathering_starts : Gathering c s n block row₀ row₀ 0
-  gathering_starts = record { reached = omega arith; same_row = refl; rest = rw (mul-zero c, sub-zero n) refl }
-
   module _ (row : List ℤ) (i : ℕ) (g : Gathering c s n block row₀ row i) where
     pub gathering_on : i < n → n ≤ length row₀ → Gathering c s n block row₀ (set row i (get_or block (c * i + s) (pos 0))) (i + 1)
     gathering_on h room =
@@ -50,9 +46,6 @@ pub record Putting (c s : ℕ) (f : ℕ → ℤ) (block₀ block : List ℤ) (i 
   pub others : (j t : ℕ) → t < c → (t ≡ s → ⊥) → get_or block (c * j + t) (pos 0) ≡ get_or block₀ (c * j + t) (pos 0)
 
 module _ (c s : ℕ) (f : ℕ → ℤ) (block₀ : List ℤ) where
-  pub putting_starts : Putting c s f block₀ block₀ 0
-  putting_starts = record { same_block = refl; here = λ j h. absurd (omega arith); others = λ j t l n. refl }
-
   module _ {block : List ℤ} {i : ℕ} (g : Putting c s f block₀ block i) (below : s < c) where
     pub putting_on : (n : ℕ) (v : ℤ) → i < n → length block₀ ≡ c * n → v ≡ f i → Putting c s f block₀ (set block (c * i + s) v) (i + 1)
     putting_on n v h room e =

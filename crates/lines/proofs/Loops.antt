@@ -15,7 +15,6 @@ use Rattle.whole.proofs.Rounded.{raw}
 use Rattle.tree.specs.Prototype.{Prototype}
 use Rattle.ring.specs.Line.{low_value, late_value}
 use Rattle.lines.specs.Rows.{row_places, Lined, line}
-use Rattle.ring.specs.Helpers.{Within}
 use Rattle.lines.specs.Helpers.{Part, LineDone}
 
 one_on : (at i : ℕ) → at + (i + 1) ≡ suc (at + i)
@@ -56,15 +55,6 @@ module _ (p : Prototype) (size at L from to : ℕ) (lines₀ m₀ : List ℤ) wh
   going_starts h = record { started = omega arith; reached = h; same_lines = refl; same_matrix = refl; unread = refl; rest = refl }
 
 module _ {p : Prototype} {size at L from to : ℕ} {lines₀ m₀ lines m : List ℤ} {i : ℕ} (q : Part p lines₀ size at L from to m₀) (g : Going p size at L from to lines₀ m₀ lines m i) where
-  -- the position of a sample of the part lies in its line
-  pub going_within : i < to → Within p lines size (at + i) L
-  going_within h =
-      record { inside = omega (arith, q.before_end); reach = q.reach; some = q.some; held = omega (arith, q.held, g.same_lines); small = q.small }
-
-  -- its low sample has a place in the second row
-  pub going_second : (z : ℤ) → i < to → row_places + i < length (set m i z)
-  going_second z h = rw (length-set m i z) (omega (arith, q.room, q.short, g.same_matrix))
-
   -- its value has not been written over
   same_sample : i < to → get_or m i (pos 0) ≡ get_or (row m₀) i (pos 0)
   same_sample h =

@@ -9,7 +9,7 @@ use lib.Seq.{slice, take-take, length-take-le, drop-drop}
 use lib.IntN.{ℤ}
 use Rattle.tree.specs.Prototype.{Prototype}
 use Rattle.lines.specs.Rows.{row_places, Lined, line}
-use Rattle.lines.specs.Helpers.{Part, Between, LineDone}
+use Rattle.lines.specs.Helpers.{Between, LineDone}
 
 -- two runs one after the other
 abbrev then : Lined → Lined → Lined
@@ -79,21 +79,7 @@ module _ (p : Prototype) (size at L : ℕ) where
       let here : at + 0 ≡ at = omega arith in
       rw (here, take-take w row_places m₀ h) at d
 
--- ---- what the parts ask
-
-module _ (p : Prototype) (size at L n : ℕ) (lines m : List ℤ) (q : Part p lines size at L 0 n m) where
-  pub part_of_row : (from to : ℕ) (ls ms : List ℤ) → from ≤ to → to ≤ n → length ls ≡ length lines → length ms ≡ length m → Part p ls size at L from to ms
-  part_of_row from to ls ms h k el em =
-      record {
-        ordered = h;
-        before_end = omega (arith, q.before_end);
-        reach = q.reach;
-        some = q.some;
-        held = rw el q.held;
-        small = q.small;
-        short = omega (arith, q.short);
-        room = rw em q.room;
-      }
+-- ---- the parts of a row
 
 -- where the three parts end, and what is known of each
 pub record Cuts (at L n w v : ℕ) : Type 0 where

@@ -20,7 +20,7 @@ fn add_pair(sum: i64, c: i64, a: i32, b: i32) -> i64
     sum + c * pair(a, b)
 }
 
-// c(0)·x0 + c(2)·x2 + .. + c(18)·x18: the samples at the coefficients that are not 0.
+// c(0)·x0 + c(2)·x2 + .. + c(18)·x18: the samples at the coefficients that are not 0. Each by its name: in an array its place would be no coefficient's.
 pub(crate) fn weigh(
     x0: i32,
     x2: i32,

@@ -1,4 +1,4 @@
-// Counts, unsigned: the smaller of two, a difference that stops at 0, a byte as a number.
+// Counts, unsigned: the smaller of two, a difference that stops at 0, a byte as a number. The library's methods, by the names that the crates above cite.
 ghost use Rattle.std.specs.Prelude.{◌≡◌, ◌-◌, ◌<◌, min};
 
 pub fn least(a: usize, b: usize) -> usize
