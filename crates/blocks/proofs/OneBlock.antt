@@ -89,20 +89,24 @@ module _ (memory gains input : List ℤ) (skipped : ℕ) (stored : List ℕ) (l 
       o_long : length o ≡ length input
       o_long = ap length o_is ∙ equalised_long memory gains input (held_whole memory gains input (zeros input) held)
 
-      pub call_stored : (rest : List ℤ) (r : Result ℕ StoreError) (k : Option ℕ) (t : List ℕ) → k ≡ result_ok r →
-          Done (block_to (take (length input - skipped) (drop skipped (o ++ rest))) stored) r t → Done (equalise_of memory gains input skipped stored) k (m, t)
-      call_stored rest r k t e s =
+      -- the codec takes its outputs
+      stored_is : (rest : List ℤ) →
+          block_to (take (length input - skipped) (drop skipped (o ++ rest))) stored ≡ record { result = Ok (length stored); lent = bytes_of (drop skipped o) }
+      stored_is rest =
           let part : take (length input - skipped) (drop skipped (o ++ rest)) ≡ drop skipped o =
           ap (take (length input - skipped)) (drop-append-le skipped o rest (omega (arith, o_long, l.within))) ∙
           take_at (drop skipped o) rest (length input - skipped) (length-drop skipped o ∙ ap (λ (n : ℕ). n - skipped) o_long) in
           let fits : length stored ≡ 3 * length (drop skipped o) = l.fit ∙ ap (λ (n : ℕ). 3 * (n - skipped)) (sym o_long) ∙ ap (λ (n : ℕ). 3 * n) (sym (length-drop skipped o)) in
           let range = in_range_drop skipped o (subst (λ (x : List ℤ). all_in_range x ≡ true) (sym o_is) (equalised_in_range memory gains input)) in
-          let all : block_to (take (length input - skipped) (drop skipped (o ++ rest))) stored ≡ record { result = Ok (length stored); lent = bytes_of (drop skipped o) } =
-          ap (λ (x : List ℤ). block_to x stored) part ∙ to_all (drop skipped o) stored fits range in
-          let bytes : t ≡ bytes_of (drop skipped o) = s.lent_is ∙ ap (λ (x : Outcome (Result ℕ StoreError) (List ℕ)). x.lent) all in
+          ap (λ (x : List ℤ). block_to x stored) part ∙ to_all (drop skipped o) stored fits range
+
+      pub call_stored : (rest : List ℤ) (r : Result ℕ StoreError) (k : Option ℕ) (t : List ℕ) → k ≡ result_ok r →
+          Done (block_to (take (length input - skipped) (drop skipped (o ++ rest))) stored) r t → Done (equalise_of memory gains input skipped stored) k (m, t)
+      call_stored rest r k t e s =
+          let bytes : t ≡ bytes_of (drop skipped o) = s.lent_is ∙ ap (λ (x : Outcome (Result ℕ StoreError) (List ℕ)). x.lent) (stored_is rest) in
           record {
             result_is =
-                e ∙ ap result_ok (s.result_is ∙ ap (λ (x : Outcome (Result ℕ StoreError) (List ℕ)). x.result) all) ∙
+                e ∙ ap result_ok (s.result_is ∙ ap (λ (x : Outcome (Result ℕ StoreError) (List ℕ)). x.result) (stored_is rest)) ∙
                 sym (ap (λ (x : Outcome (Option ℕ) (List ℤ × List ℕ)). x.result) (judged true written));
             lent_is =
                 (λ i. ((d.lent_is i).0, bytes i)) ∙ ap (λ (x : List ℤ × List ℤ). ((block_for memory gains input).lent.0, bytes_of (drop skipped x.1))) d.lent_is ∙

@@ -1,21 +1,17 @@
 -- Where the bytes of a turn come from: the front, and then standard input. Assumes nothing.
 use mathlib.Core.Path.{◌≡◌, sym, ap, ap₂, ◌∙◌}
 use mathlib.Core.List.{List, ◌++◌}
-use Prim.Native.Nat.{ℕ, ◌+◌, ◌-◌, ◌≤◌, ◌<◌, min}
-use native.Mathlib.Decide.{dec_lt}
+use Prim.Native.Nat.{ℕ, ◌+◌, ◌-◌, ◌≤◌, min}
 use native.Mathlib.Omega.{arith}
 use borrow.Rule.Slice.PartMut.{put_mid}
 use lib.ListN.{length, take, drop, length-append, length-take, length-drop}
-use lib.Seq.{take_all, take_at, take-append-add, take-append-le, length-take-le}
+use lib.Seq.{take_at, take-append-add, take-append-le, length-take-le}
+use Rattle.std.proofs.lemmas.List.{take_min}
 use Rattle.eqfile.specs.Front.{carry_of}
 use Rattle.runs.specs.Program.{Fetched}
 
 take-least : (n m : ℕ) (l : List ℕ) → n ≡ min (length l) m → take n l ≡ take m l
-take-least n m l e = by (dec_lt m (length l))
-  where
-    by : Dec (m < length l) → take n l ≡ take m l
-    by (yes h) = let here : n ≡ m = omega arith in ap (λ (k : ℕ). take k l) here
-    by (no h) = take_all n l (omega arith) ∙ sym (take_all m l (omega arith))
+take-least n m l e = let k : n ≡ min m (length l) = omega arith in ap (λ (j : ℕ). take j l) k ∙ take_min m l
 
 -- what was carried from the front, and what then came in behind it
 module _ (front bytes : List ℕ) (from had : ℕ) (held : List ℕ) (e : (had, held) ≡ carry_of front from bytes) where
