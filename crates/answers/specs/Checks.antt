@@ -1,7 +1,7 @@
 -- How a call refuses: one list of checks, in order.
 use Rattle.std.specs.Prelude.{◌≡◌, Bool, true, cond, ◌&&◌, List, [], ◌∷◌}
 
--- rule 6.3: a test that must hold, and the case that the call answers where it does not; R is the call's own enum
+-- rule 6.3: a test that must hold, and the case that the call answers where it does not; R is the call's own type, a `Result`
 pub record Check (R : Type 0) : Type 0 where
   pub holds : Bool
   pub otherwise : R

@@ -87,4 +87,4 @@ module _ (channels : Channels) {places : ℕ} (counted : places ≡ memory_lengt
 pub at_start : {plan : Plan} {gains : List ℤ} {front : List ℕ} {memory : List ℤ} → HasStarted plan gains front → memory ≡ prepared bands (count_of plan.channels) →
     Running plan gains front (record { at = 0; read = 0 }) memory
 unfolding Followed AllFetched after
-at_start s e = record { started = s; pieces = []; followed = tt; fetched = tt; stands = λ i. record { at = 0; read = 0; memory = e i } }
+at_start {plan} s e = record { rate = plan.rate; started = s; pieces = []; followed = tt; fetched = tt; stands = λ i. record { at = 0; read = 0; memory = e i } }

@@ -47,7 +47,7 @@ module _ (plan : Plan) (gains : List ℤ) (front : List ℕ) (read : ℕ) (e : E
   front_read_first = front_first gains plan.format plan.channels plan.frames front plan.start e.pieces e.by_plan e.fetched
 
   abbrev file : List ℕ
-  file = file_of gains plan.rate plan.format plan.channels plan.frames e.pieces
+  file = file_of gains e.rate plan.format plan.channels plan.frames e.pieces
 
   -- the file is as long as its header says, with the pad ..
   pub whole_length : length file ≡ 44 + padded (3 * (count_of plan.channels * plan.frames))
@@ -78,10 +78,10 @@ module _ (plan : Plan) (gains : List ℤ) (front : List ℕ) (st : Stopped plan 
 
   -- what was handed over is the header, and the outputs of the blocks before
   pub stopped_writes : let at = st.place.at in let c = count_of plan.channels in
-      stopped_file gains plan.format plan.channels plan.frames plan.rate before ≡
-      header plan.rate (3 * (c * plan.frames)) c ++ bytes_of (frames_out gains plan.channels (at - late) (samples_from (c * at) plan.format (handed before)))
+      stopped_file gains plan.format plan.channels plan.frames run.rate before ≡
+      header run.rate (3 * (c * plan.frames)) c ++ bytes_of (frames_out gains plan.channels (at - late) (samples_from (c * at) plan.format (handed before)))
   stopped_writes =
       let c = count_of plan.channels in
       stopped_is run.started before st.piece stops_so ∙
-      ap (λ (s : State). header plan.rate (3 * (c * plan.frames)) c ++ bytes_of (frames_out gains plan.channels (s.at - late) (samples_from (c * s.at) plan.format (handed before))))
+      ap (λ (s : State). header run.rate (3 * (c * plan.frames)) c ++ bytes_of (frames_out gains plan.channels (s.at - late) (samples_from (c * s.at) plan.format (handed before))))
       (sym run.stands)

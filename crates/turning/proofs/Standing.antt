@@ -102,6 +102,7 @@ pub further : {plan : Plan} {gains : List ℤ} {front : List ℕ} {place : Place
     Further plan gains front place (Ok (record { at = place.at + turn.fed; read = place.read + got })) after'
 further {plan} {gains} {front} {place} {memory} {after'} {turn} {piece} got came long e = (
   record {
+    rate = run.rate;
     started = run.started;
     pieces = run.pieces ++ piece ∷ [];
     followed =
@@ -130,6 +131,7 @@ pub ended : (plan : Plan) (gains : List ℤ) (front : List ℕ) (place : Place) 
     Ended plan gains front place.read
 ended plan gains front place memory run h =
     record {
+      rate = run.rate;
       started = run.started;
       pieces = run.pieces;
       by_plan = (run.followed, subst (λ (s : State). fed_in_all plan.frames ≤ s.at) run.stands h);

@@ -19,7 +19,8 @@ HasStarted plan gains front = Started gains front plan.rate plan.format plan.cha
 
 -- rules 10.10, 10.11: a run has started, and after some turns by the plan, whose bytes came from the front and standard input, it stands at a place with a memory
 pub record Running (plan : Plan) (gains : List ℤ) (front : List ℕ) (place : Place) (memory : List ℤ) : Type 0 where
-  pub started : HasStarted plan gains front
+  pub rate : ℕ
+  pub started : Started gains front rate plan.format plan.channels plan.frames plan.start
   pub pieces : List (List ℕ)
   pub followed : Followed gains plan.format plan.channels plan.frames (fresh plan.channels) pieces
   pub fetched : AllFetched gains plan.format plan.channels plan.frames front plan.start (fresh plan.channels) pieces
@@ -79,7 +80,8 @@ Further plan gains front place (Err (OutputFailed error)) memory = Tried plan ga
 
 -- rule 10.13: a run has ended by its plan, and so many bytes were read
 pub record Ended (plan : Plan) (gains : List ℤ) (front : List ℕ) (read : ℕ) : Type 0 where
-  pub started : HasStarted plan gains front
+  pub rate : ℕ
+  pub started : Started gains front rate plan.format plan.channels plan.frames plan.start
   pub pieces : List (List ℕ)
   pub by_plan : ByPlan gains plan.format plan.channels plan.frames (fresh plan.channels) pieces
   pub fetched : AllFetched gains plan.format plan.channels plan.frames front plan.start (fresh plan.channels) pieces
