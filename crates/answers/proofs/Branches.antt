@@ -1,15 +1,18 @@
 -- A check's test, from what a branch of the code tells. Assumes nothing.
 use mathlib.Core.Path.{◌≡◌, sym, ap, ◌∙◌}
-use mathlib.Core.Bool.{Bool, true, false, not}
-use Prim.Native.Nat.{ℕ, ◌<◌, ◌≤◌}
-use native.Mathlib.Omega.{arith}
+use mathlib.Core.Bool.{Bool, true, false, not, false≢true}
+use mathlib.Core.List.{List}
+use Prim.Native.Nat.{ℕ}
 use borrow.Author.Tests.{not-true, not-false, eq-eqb, ne_eqb, lt-ltb, le-ltb, le-leb, lt-leb}
-use lib.Dec.{eqb, leb}
+use lib.Dec.{eqb}
 use lib.IntN.{ℤ}
 use mir.Syntax.{w32}
 use mir.Val.{SFits, to_z, of_z}
 use mir.Facts.{to_z-of_z}
+use Rattle.std.specs.Prelude.{Option, Some, None, is_some, position}
+use Rattle.answers.specs.First.{all_pass}
 use Rattle.answers.specs.Range.{within}
+use Rattle.answers.proofs.Firsts.{found, found_none}
 use Rattle.answers.proofs.Laws.{refuses_here, goes_on, accepts}
 
 -- ---- a call's answer, and its negation
@@ -34,13 +37,16 @@ within_no lo hi z r e f d = within_is lo hi f e (not-true r d)
 pub within_yes : (lo hi z : ℤ) (r : Bool) → r ≡ within lo hi (to_z w32 (of_z w32 z)) → SFits w32 z → not r ≡ false → within lo hi z ≡ true
 within_yes lo hi z r e f d = within_is lo hi f e (not-false r d)
 
--- ---- a place that was looked for, among n
+-- ---- a place that was looked for: one that fails
 
-pub found : (n place k : ℕ) → k ≡ place → k < n → leb n place ≡ false
-found n place k e h = lt-leb n place (omega arith)
+module _ {A : Type 0} (test : A → Bool) (s : List A) where
+  pub some_fails : (r : Option ℕ) → r ≡ position (λ x. not (test x)) s → is_some r ≡ true → all_pass test s ≡ false
+  some_fails None e d = absurd (false≢true d)
+  some_fails (Some i) e d = (found test s i (sym e)).0
 
-pub found_none : (n place k : ℕ) → k ≡ place → n ≤ k → leb n place ≡ true
-found_none n place k e h = le-leb n place (omega arith)
+  pub none_fails : (r : Option ℕ) → r ≡ position (λ x. not (test x)) s → is_some r ≡ false → all_pass test s ≡ true
+  none_fails None e d = found_none test s (sym e)
+  none_fails (Some i) e d = absurd (false≢true (sym d))
 
 -- ---- a number that a call answered
 
@@ -52,6 +58,6 @@ other a b k e n = ne_eqb a b (λ q. n (q ∙ sym e))
 
 -- ---- all of them, for search: a test from the branch that was taken
 
-pub ruleset branches = (eq-eqb, ne_eqb, le-leb, lt-leb, lt-ltb, le-ltb, told, told_no, told_yes, within_no, within_yes, found, found_none, same, other)
+pub ruleset branches = (eq-eqb, ne_eqb, le-leb, lt-leb, lt-ltb, le-ltb, told, told_no, told_yes, within_no, within_yes, some_fails, none_fails, same, other)
 
 pub ruleset judging = (refuses_here, goes_on, accepts, branches)

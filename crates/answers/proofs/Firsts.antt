@@ -1,33 +1,21 @@
 -- The laws of the first element that fails a test. Assumes nothing.
 use mathlib.Core.Path.{◌≡◌, refl, sym, ap, ◌∙◌}
-use mathlib.Core.Bool.{Bool, true, false, cond, ◌&&◌, false≢true}
+use mathlib.Core.Bool.{Bool, true, false, cond, not, ◌&&◌, false≢true}
 use mathlib.Core.List.{List, [], ◌∷◌, ◌++◌}
 use Prim.Native.Nat.{ℕ, zero, suc, ◌+◌, ◌≤◌, ◌<◌}
 use native.Mathlib.Nat.{le_of_suc-le-suc, not-suc-le-zero}
-use native.Mathlib.Numerals.{add-one}
 use native.Mathlib.Omega.{arith}
 use native.Mathlib.Decide.{dec_lt}
-use borrow.Author.Tests.{leb-true, leb-false, le-leb, lt-leb, lt-ltb, le-ltb}
-use lib.Dec.{leb}
-use lib.ListN.{length, get_or, drop, drop_of_length-le}
-use lib.Seq.{drop-cons}
-use Rattle.std.proofs.Common.{Option, None, Some, not, ltb}
-use Rattle.std.specs.Option.{unwrap_or}
+use borrow.Author.Tests.{leb-true, leb-false, le-leb, lt-leb, le-ltb}
+use lib.Dec.{leb, ltb}
+use lib.ListN.{length, get_or}
+use Rattle.std.specs.Prelude.{Some, None, position}
 use Rattle.std.specs.List.{position_or_len}
+use Rattle.std.proofs.lemmas.Grind.{common_steps}
 use Rattle.std.proofs.lemmas.List.Recursion.{is_position_or_len}
 use Rattle.answers.specs.First.{first_failing, FirstFails, all_pass}
 
 module _ {A : Type 0} (test : A → Bool) (other : A) where
-  -- ---- from a place on
-
-  pub first-from : (s : List A) (i : ℕ) → i < length s → first_failing test (drop i s) ≡ cond (test (get_or s i other)) (suc (first_failing test (drop (i + 1) s))) 0
-  unfolding first_failing
-  first-from s i h = rw (drop-cons s i other h, add-one i)
-
-  pub first_past : (s : List A) (i : ℕ) → length s ≤ i → first_failing test (drop i s) ≡ 0
-  unfolding first_failing
-  first_past s i h = rw (drop_of_length-le s h)
-
   -- ---- the first
 
   -- an element before the first that fails passes
@@ -92,25 +80,27 @@ module _ {A : Type 0} (test : A → Bool) where
       by true k = omega arith
       by false k = refl
 
-  at_most : (s : List A) → first_failing test s ≤ length s
-  unfolding first_failing
-  at_most [] = omega arith
-  at_most (x ∷ xs) = by (test x) (first_failing test xs) (at_most xs)
-    where
-      by : (t : Bool) (k : ℕ) → k ≤ length xs → cond t (suc k) 0 ≤ suc (length xs)
-      by true k h = omega arith
-      by false k h = omega arith
+  -- where the library finds one, it is the first that fails
+  pub found : (s : List A) (i : ℕ) → position (λ x. not (test x)) s ≡ Some i → (all_pass test s ≡ false) × (i ≡ first_failing test s)
+  found s i e =
+      let p = first_is s in
+      let at : position_or_len (λ x. not (test x)) s ≡ i = grind (arith, common_steps) in
+      let inside : i < length s = grind (arith, common_steps) in
+      (lt-leb (length s) (first_failing test s) (omega arith), omega arith)
 
-  pub found_first : (s : List A) {n : ℕ} {r : Option ℕ} → let p = position_or_len (λ x. not (test x)) s in
-      r ≡ cond (ltb p (length s)) (Some p) None → n ≡ unwrap_or r (length s) → n ≡ first_failing test s
-  found_first s e f = f ∙ ap (λ o. unwrap_or o (length s)) e ∙ by (first_is s) (dec_lt p (length s)) ∙ sym (first_is s)
-    where
-      p : ℕ
-      p = position_or_len (λ x. not (test x)) s
+  -- where it finds none, all pass
+  pub found_none : (s : List A) → position (λ x. not (test x)) s ≡ None → all_pass test s ≡ true
+  found_none s e =
+      let p = first_is s in
+      let past : length s ≤ position_or_len (λ x. not (test x)) s = grind (arith, common_steps) in
+      le-leb (length s) (first_failing test s) (omega arith)
 
-      by : first_failing test s ≡ p → Dec (p < length s) → unwrap_or (cond (ltb p (length s)) (Some p) None) (length s) ≡ p
-      by q (yes h) = rw (lt-ltb p (length s) h) refl
-      by q (no h) = rw (le-ltb p (length s) (omega arith)) (omega (arith, at_most s))
+  -- .. and where all pass, it finds none
+  pub none_there : (s : List A) → length s ≡ first_failing test s → None ≡ position (λ x. not (test x)) s
+  none_there s e =
+      let p = first_is s in
+      let n : ltb (position_or_len (λ x. not (test x)) s) (length s) ≡ false = le-ltb (position_or_len (λ x. not (test x)) s) (length s) (omega arith) in
+      rw n refl
 
   pub all_cons : (x : A) (xs : List A) → all_pass test (x ∷ xs) ≡ true → (test x ≡ true) × (all_pass test xs ≡ true)
   unfolding first_failing

@@ -52,7 +52,7 @@ fn side_row(
     input: &[i32],
     rows: &mut [i32],
 )
-    requires { RowRegion published bands size at 1 n lines.old rows.old × (length input.now ≡ side.channels * n) }
+    requires { RowRegion published bands size at 1 n lines.old rows.old × (length input.now ≡ side.channels * n) × (side.channels ≤ 2) }
     ensures { RowsDone (rowed published size (bands - 1) 1 at lines.old (side_numbers side.channels side.s n input.now)) n lines.new rows.new }
 {
     side.gather(input, n, rows);
@@ -71,7 +71,7 @@ pub fn each_row(
     output: &mut [i32],
     second: &mut [i32],
 ) -> usize
-    requires { Region published block.now.bands size 1 lines.old × (from < size) × Second block.now.bands block.now.others.now block.now.input.now second.old × (length output.old ≡ length block.now.input.now) × (length block.now.input.now % side.channels ≡ 0) × (row_places * block.now.bands ≤ length rows.old) }
+    requires { Region published block.now.bands size 1 lines.old × (from < size) × Second block.now.bands block.now.others.now block.now.input.now second.old × (length output.old ≡ length block.now.input.now) × (length block.now.input.now % side.channels ≡ 0) × (row_places * block.now.bands ≤ length rows.old) × (side.channels ≤ 2) }
     ensures { BothDone side.channels side.s (run published size (block.now.bands - 1) from lines.old (side_of side.channels side.s block.now.input.now)) block.now.gains.now block.now.others.now lines.new result output.old output.new second.old second.new }
 {
     let Block {

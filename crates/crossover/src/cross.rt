@@ -85,7 +85,7 @@ pub fn cross(
     if !within(1, (gains.len() - 1) as i32, split) {
         return Err(CrossError::Split);
     }
-    if first_outside(0, LARGEST_GAIN, gains) < gains.len() {
+    if first_outside(0, LARGEST_GAIN, gains).is_some() {
         return Err(CrossError::Gain);
     }
     if bass.len() != input.len() {

@@ -5,7 +5,6 @@ pub mod InRange
 pub mod Ladder
 pub mod NoNumber
 pub mod OneAnswer
-pub mod Places
 pub mod Quotients
 pub mod Readings
 pub mod Refusals

@@ -2,19 +2,18 @@
 ghost use Rattle.std.specs.Prelude.{◌≡◌, ◌≤◌, ◌<◌, ◌*◌, length, take};
 ghost use Rattle.frames.specs.Frames.{side};
 
-// A side: its place in each frame of one or two channels.
+// A side: its place in each frame of so many channels.
 #[derive(Clone, Copy)]
 pub struct Side {
     pub channels: usize,
     pub s: usize,
     pub ghost there: { s < channels },
-    pub ghost few: { channels ≤ 2 },
 }
 
 impl Side {
     // The numbers of this side of n frames, at the front of the row. Strides that are known, of one and of two, let the compiler take four numbers at a time.
     pub fn gather(self, block: &[i32], n: usize, row: &mut [i32])
-        requires { (length block.now ≡ self.channels * n) × (n ≤ length row.old) }
+        requires { (length block.now ≡ self.channels * n) × (n ≤ length row.old) × (self.channels ≤ 2) }
         ensures { take n row.new ≡ side self.channels self.s n block.now }
     {
         let front = &mut row[..n];

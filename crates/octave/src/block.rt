@@ -65,7 +65,7 @@ pub fn block(
     if gains.len() != counts.bands() {
         return Err(BlockError::GainCount);
     }
-    if first_outside(0, LARGEST_GAIN, gains) < gains.len() {
+    if first_outside(0, LARGEST_GAIN, gains).is_some() {
         return Err(BlockError::Gain);
     }
     if output.len() != input.len() {

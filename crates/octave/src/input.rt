@@ -27,9 +27,8 @@ pub fn judge_input(input: &[i32], counts: Counts) -> Result<usize, InputError>
     if BLOCK_LIMIT < frames {
         return Err(InputError::TooLong);
     }
-    let bad = first_outside(LEAST_SAMPLE, MOST_SAMPLE, input);
-    if bad < input.len() {
-        return Err(InputError::Sample(bad));
+    if let Some(place) = first_outside(LEAST_SAMPLE, MOST_SAMPLE, input) {
+        return Err(InputError::Sample(place));
     }
     Ok(frames)
 }

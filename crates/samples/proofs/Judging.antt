@@ -7,7 +7,7 @@ use Prim.Native.Nat.{ℕ}
 use lib.Dec.{leb}
 use Rattle.std.specs.Prelude.{Some, None, position}
 use Rattle.answers.specs.First.{all_pass}
-use Rattle.floats.proofs.Places.{found, found_none, none_there}
+use Rattle.answers.proofs.Firsts.{found, found_none, none_there}
 use Rattle.samples.specs.Sample.{is_sample_in}
 use Rattle.samples.specs.Samples.{pieces_of, first_bad, all_samples}
 use Rattle.samples.specs.Format.{size_of}

@@ -112,7 +112,7 @@ pub fn samples_to_bytes(samples: &[i32], buffer: &mut [u8]) -> Result<usize, Sto
     if buffer.len() != 3 * samples.len() {
         return Err(StoreError::WrongLength);
     }
-    if first_outside(LEAST_SAMPLE, MOST_SAMPLE, samples) < samples.len() {
+    if first_outside(LEAST_SAMPLE, MOST_SAMPLE, samples).is_some() {
         return Err(StoreError::OutOfRange);
     }
     store_all(samples, buffer);

@@ -4,10 +4,10 @@ use Rattle.std.specs.Prelude.{Result, Ok, Err}
 use Rattle.std.proofs.lemmas.Result.{err_from_is_err_and}
 use borrow.Author.Tests.{eqb-true}
 use mir.Facts.{to_z_pos}
-use Rattle.answers.specs.Range.{within, first_outside}
+use Rattle.answers.specs.Range.{within}
 use Rattle.answers.specs.Unit.{largest_gain}
 use Rattle.answers.proofs.Laws.{refuses, goes_on}
-use Rattle.answers.proofs.Branches.{branches, judging, found_none}
+use Rattle.answers.proofs.Branches.{branches, judging, none_fails}
 use Rattle.octave.specs.declared.memory.Fault.{Fault}
 use Rattle.octave.specs.Counts.{Counts}
 use Rattle.octave.specs.Helpers.{KeptCounts}
@@ -55,8 +55,8 @@ returns-then-not-within c =
     let w = split-told k (c.if-gains-bands.false ∙ c.bands.ensures) c.ranges.split c.within.ensures c.if-not-within.true in
     search judging depth 12
 
-pub returns-then-first_outside-gains : goal.returns-then-first_outside-gains
-returns-then-first_outside-gains c =
+pub returns-then-is_some : goal.returns-then-is_some
+returns-then-is_some c =
     let k = kept_right c.args.memory.now c.in_ok-counts.counts c.in_ok-counts.ensures in
     let b = bands_kept k c.bands.ensures in
     let w = split-told k (c.if-gains-bands.false ∙ c.bands.ensures) c.ranges.split c.within.ensures c.if-not-within.false in
@@ -102,7 +102,7 @@ feed_both-requires c =
       memory_kept = k;
       counted = omega arith;
       below = rw (to_z-of_z c.ranges.split) (omega (arith, counts_few k, bands_kept k refl, (count_of_lem 0 (bands_in c.args.memory.now - 1) c.args.split w).to));
-      allowed = found_none (length gains) (first_outside (pos 0) (pos largest_gain) gains) c.first_outside.result c.first_outside.ensures c.if-first_outside-gains.false;
+      allowed = none_fails (within (pos 0) (pos largest_gain)) gains c.first_outside.result c.first_outside.ensures (sym c.is_some.ensures ∙ c.if-is_some.false);
       low_alike = omega arith;
       high_alike = omega arith;
       whole = eqb-true (length input % counts.channels) 0 right.whole;

@@ -1,11 +1,11 @@
 -- The checks in turn, then all samples.
 use Rattle.std.proofs.Common.{◌≡◌, ap}
 use Rattle.answers.specs.First.{first_failing}
+use Rattle.answers.proofs.Firsts.{found, found_none}
 use Rattle.answers.proofs.Branches.{judging}
 use Rattle.answers.proofs.Laws.{refuses_last}
 use Rattle.floats.specs.Block.{is_number, from_floats}
 use Rattle.floats.specs.declared.block.FloatsError.TheVariants.{BadFloat}
-use Rattle.floats.proofs.Places.{found, found_none}
 use Rattle.floats.proofs.block.samples_from_floats.Goals as goal
 
 pub returns-in-Some : goal.returns-in-Some

@@ -1,11 +1,11 @@
 -- Each return has the checks that led there.
-use Rattle.std.proofs.Common.{ℕ, ◌%◌, ap, length, pos, arith}
+use Rattle.std.proofs.Common.{ℕ, ◌%◌, ◌∙◌, ap, sym, length, pos, arith}
 use Rattle.std.specs.Prelude.{Result, Ok, Err}
 use Rattle.std.proofs.lemmas.Result.{err_from_is_err_and}
 use Rattle.answers.proofs.Laws.{refuses, goes_on}
-use Rattle.answers.specs.Range.{first_outside}
+use Rattle.answers.specs.Range.{within}
 use Rattle.answers.specs.Unit.{largest_gain}
-use Rattle.answers.proofs.Branches.{branches, judging, found_none}
+use Rattle.answers.proofs.Branches.{branches, judging, none_fails}
 use borrow.Author.Tests.{eqb-true}
 use Rattle.octave.specs.declared.memory.Fault.{Fault}
 use Rattle.octave.specs.declared.block.BlockError.{BlockError}
@@ -36,8 +36,8 @@ returns-then-gains-bands c =
     let b = bands_kept k c.bands.ensures in
     search judging depth 12
 
-pub returns-then-first_outside-gains : goal.returns-then-first_outside-gains
-returns-then-first_outside-gains c =
+pub returns-then-is_some : goal.returns-then-is_some
+returns-then-is_some c =
     let k = kept_right c.args.memory.now c.in_ok-counts.counts c.in_ok-counts.ensures in
     let b = bands_kept k c.bands.ensures in
     search judging depth 12
@@ -67,7 +67,7 @@ equalise-requires c =
     record {
       memory_kept = kept_right c.args.memory.now counts c.in_ok-counts.ensures;
       counted = omega arith;
-      allowed = found_none (length gains) (first_outside (pos 0) (pos largest_gain) gains) c.first_outside.result c.first_outside.ensures c.if-first_outside-gains.false;
+      allowed = none_fails (within (pos 0) (pos largest_gain)) gains c.first_outside.result c.first_outside.ensures (sym c.is_some.ensures ∙ c.if-is_some.false);
       alike = omega arith;
       whole = eqb-true (length input % counts.channels) 0 right.whole;
     }

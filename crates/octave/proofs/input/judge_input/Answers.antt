@@ -2,8 +2,10 @@
 use Rattle.std.proofs.Common.{◌≡◌, ◌∙◌, sym, true, false, ap, ℕ, ◌/◌, ◌%◌, ◌≤◌, ◌<◌, length, eqb, leb, arith}
 use Rattle.std.specs.Prelude.{Result, Ok}
 use borrow.Author.Tests.{le-leb, lt-leb}
-use Rattle.answers.specs.Unit.{block_limit}
+use Rattle.answers.specs.Range.{within}
+use Rattle.answers.specs.Unit.{block_limit, least_sample, most_sample}
 use Rattle.answers.proofs.Laws.{chosen_here, chosen_on, chosen_last}
+use Rattle.answers.proofs.Firsts.{found, found_none}
 use Rattle.answers.proofs.Branches.{branches}
 use Rattle.octave.specs.declared.input.InputError.{InputError}
 use Rattle.octave.specs.Counts.{Counts}
@@ -35,13 +37,15 @@ returns-then-frames-gt-BLOCK_LIMIT c =
     let l : leb (length c.args.input.now / n) block_limit ≡ false = long c.frames_in-frames.ensures c.if-frames-gt-BLOCK_LIMIT.true in
     search (chosen_here, chosen_on))
 
-pub returns-then-bad-input : goal.returns-then-bad-input
-returns-then-bad-input c =
+pub returns-in-Some : goal.returns-in-Some
+returns-in-Some c =
     rw (ap (λ (k : Counts). input_of k.channels c.args.input.now) (sym c.counts.view_is))
     (let n = c.counts.inside.channels in
     let w : eqb (length c.args.input.now % n) 0 ≡ true = sym c.whole_frames.ensures ∙ c.if-not-whole_frames.false in
     let l : leb (length c.args.input.now / n) block_limit ≡ true = short c.frames_in-frames.ensures c.if-frames-gt-BLOCK_LIMIT.false in
-    rw c.first_outside-bad.ensures (search (chosen_here, chosen_on, branches)))
+    let f = found (within least_sample most_sample) c.args.input.now c.in-Some.place (cc) in
+    let all = f.0 in
+    rw f.1 (search (chosen_here, chosen_on)))
 
 pub returns : goal.returns
 returns c =
@@ -49,5 +53,6 @@ returns c =
     (let n = c.counts.inside.channels in
     let w : eqb (length c.args.input.now % n) 0 ≡ true = sym c.whole_frames.ensures ∙ c.if-not-whole_frames.false in
     let l : leb (length c.args.input.now / n) block_limit ≡ true = short c.frames_in-frames.ensures c.if-frames-gt-BLOCK_LIMIT.false in
+    let all = found_none (within least_sample most_sample) c.args.input.now (cc) in
     let is = ap counted c.frames_in-frames.ensures in
     search (chosen_on, chosen_last, branches) depth 12)

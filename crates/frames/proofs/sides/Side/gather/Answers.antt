@@ -25,6 +25,6 @@ pub returns : goal.returns
 returns c =
     let a = c.args in
     let l = c.loop-i in
-    let two : a.self.channels ≡ 2 = let h = a.self.there in let k = a.self.few in omega arith in
+    let two : a.self.channels ≡ 2 = let h = a.self.there in let k = c.requires.2 in omega arith in
     let long : length l.front ≡ a.n = l.auto.front ∙ length-take-le a.n a.row.now c.requires.1 in
     take-append-le a.n l.front (drop a.n a.row.now) (omega arith) ∙ gathering_ends 2 a.self.s a.n a.block.now _ l.front l.i l.invariant (omega arith) ∙ ap (λ (k : ℕ). side k a.self.s a.n a.block.now) (sym two)
