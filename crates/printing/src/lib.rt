@@ -9,6 +9,7 @@ use std::fmt::Display;
 use std::io;
 
 // `accepted` and the value that a call answered, or `refused` and the number of its refusal.
+// eqwave's `say::refused` prints the word too: a Display in answers would be longer than both lines.
 pub fn told<T: Copy + Display>(rt: &impl Print, answer: Result<T, Refused>) -> io::Result<()> {
     match answer {
         Ok(n) => print!(rt; " accepted {n}"),
