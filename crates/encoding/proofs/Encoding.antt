@@ -10,6 +10,7 @@ use mir.Syntax.{w64}
 use mir.Val.{SFits, to_z, of_z}
 use mir.Facts.{to_z-of_z, to_z_pos}
 use Rattle.std.proofs.Common.{Result, Ok, Err}
+use Rattle.std.specs.Prelude.{MatchResult}
 use Rattle.answers.specs.Answer.{Answer, accepted, refused, answered}
 use Rattle.answers.specs.Checks.{Outcome, Done}
 use Rattle.answers.specs.declared.refused.Refused.{Refused}
@@ -77,3 +78,20 @@ returnable_apart (refused number place) h = (h.1, h.2)
 pub counted_apart : (a : Answer ℕ) → Counted a → Apart (of_count a)
 counted_apart (accepted n) h = refl
 counted_apart (refused number place) h = returnable_apart (refused number place) h
+
+-- ---- the library's choice between a value and a refusal
+
+module _ {E : Type 0} (refusal : E → Refused) (code : ℤ) where
+  -- the code of an error
+  abbrev Refuses : E → Type 0
+  Refuses e = code ≡ encode (refused (refusal e).number (refusal e).place)
+
+  pub signed_chosen : (r : Result ℤ E) → MatchResult r (λ z. code ≡ z) Refuses → code ≡ encode (answered refusal r)
+  unfolding encode
+  signed_chosen (Ok z) h = h
+  signed_chosen (Err e) h = h
+
+  pub count_chosen : (r : Result ℕ E) → CountFits refusal r → MatchResult r (λ n. code ≡ to_z w64 n) Refuses → code ≡ encode (of_count (answered refusal r))
+  unfolding encode
+  count_chosen (Ok n) fits h = h ∙ to_z_pos w64 fits
+  count_chosen (Err e) fits h = h

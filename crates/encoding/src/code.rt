@@ -20,10 +20,7 @@ pub fn count<E: Numbered>(answer: Result<usize, E>) -> i64
     requires { CountFits E.refusal answer }
     ensures { result ≡ encode (of_count (answered E.refusal answer)) }
 {
-    match answer {
-        Ok(n) => n as i64,
-        Err(error) => refusal(error),
-    }
+    answer.map_or_else(refusal, |n| n as i64)
 }
 
 // .. and one with a sign: a sample, a gain. Apart from `count`, since one form for both would take how a value is widened.
@@ -31,8 +28,5 @@ pub fn signed<E: Numbered>(answer: Result<i32, E>) -> i64
     requires { PlaceFits E.refusal answer }
     ensures { result ≡ encode (answered E.refusal answer) }
 {
-    match answer {
-        Ok(z) => i64::from(z),
-        Err(error) => refusal(error),
-    }
+    answer.map_or_else(refusal, i64::from)
 }

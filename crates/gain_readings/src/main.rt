@@ -34,14 +34,11 @@ const ENDS: [u32; 7] = [
     0x00000000, 0x007fffff, 0x3f800000, 0x40800000, 0x41480000, 0x7f800000, 0x7fc00000,
 ];
 
-// A gain without its sign, or its refusal. The like of reading_calls' `answer`: all that differs is what is made of the value.
-fn unsigned(gained: Result<i32, GainError>) -> Result<u64, Refused>
+// A gain without its sign, or its refusal.
+fn unsigned(gained: Result<i32, GainError>) -> Result<u32, Refused>
     ensures { numbered result ≡ with_value unsigned_abs (answer_of gained) }
 {
-    match gained {
-        Ok(gain) => Ok(u64::from(gain.unsigned_abs())),
-        Err(error) => Err(error.refused()),
-    }
+    gained.map(i32::unsigned_abs).map_err(GainError::refused)
 }
 
 fn write(rt: &impl Print, command: Command) -> io::Result<()> {

@@ -3,3 +3,4 @@
 
 pub mod float_codec;
 pub mod headers;
+mod places;

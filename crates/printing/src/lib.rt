@@ -5,10 +5,12 @@
 pub mod places;
 
 use answers::refused::Refused;
+use std::fmt::Display;
 use std::io;
 
-// `accepted` and the number that a call answered, or `refused` and the number of its refusal.
-pub fn told(rt: &impl Print, answer: Result<u64, Refused>) -> io::Result<()> {
+// `accepted` and the value that a call answered, or `refused` and the number of its refusal.
+// eqwave's `say::refused` prints the word too: a Display in answers would be longer than both lines.
+pub fn told<T: Copy + Display>(rt: &impl Print, answer: Result<T, Refused>) -> io::Result<()> {
     match answer {
         Ok(n) => print!(rt; " accepted {n}"),
         Err(refused) => print!(rt; " refused {}", refused.number),

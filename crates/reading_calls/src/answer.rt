@@ -5,11 +5,8 @@ ghost use Rattle.printing.specs.Told.{numbered};
 
 use answers::refused::{Numbered, Refused};
 
-pub(crate) fn answer<E: Numbered>(answer: Result<usize, E>) -> Result<u64, Refused>
+pub(crate) fn answer<E: Numbered>(answer: Result<usize, E>) -> Result<usize, Refused>
     ensures { numbered result ≡ answered E.refusal answer }
 {
-    match answer {
-        Ok(n) => Ok(n as u64),
-        Err(error) => Err(error.refused()),
-    }
+    answer.map_err(E::refused)
 }
