@@ -1,9 +1,9 @@
 // The crossover call.
 ghost use Rattle.std.specs.Prelude.{◌≡◌};
 ghost use Rattle.answers.specs.Checks.{Done};
-ghost use Rattle.crossover.specs.declared.cross.CrossError.TheVariants.{Memory};
+ghost use Rattle.crossover.specs.declared.cross.CrossError.TheVariants.{Memory, Input};
 ghost use Rattle.crossover.specs.Answer.{cross_refusal};
-ghost use Rattle.crossover.specs.Cross.{of_input, cross_of};
+ghost use Rattle.crossover.specs.Cross.{cross_of};
 ghost use Rattle.std.proofs.Common.{rules};
 
 use crate::both::feed_both;
@@ -13,7 +13,7 @@ use answers::unit::LARGEST_GAIN;
 use octave::input::{InputError, judge_input};
 use octave::memory::{Fault, judge};
 
-// Why a crossover call was refused; a sample by its place in the input.
+// Why a crossover call was refused.
 #[derive(Clone, Copy, Debug, PartialEq, Eq)]
 pub enum CrossError {
     Memory(Fault),
@@ -22,9 +22,7 @@ pub enum CrossError {
     Gain,
     BassLength,
     HornLength,
-    PartFrame,
-    TooLong,
-    Sample(usize),
+    Input(InputError),
 }
 
 impl From<Fault> for CrossError {
@@ -36,14 +34,10 @@ impl From<Fault> for CrossError {
 }
 
 impl From<InputError> for CrossError {
-    ghost from_gives = { λ error r. r ≡ of_input error };
+    ghost from_gives = { λ error r. r ≡ Input error };
 
     fn from(error: InputError) -> CrossError {
-        match error {
-            InputError::PartFrame => CrossError::PartFrame,
-            InputError::TooLong => CrossError::TooLong,
-            InputError::Sample(place) => CrossError::Sample(place),
-        }
+        CrossError::Input(error)
     }
 }
 
@@ -56,10 +50,8 @@ impl Numbered for CrossError {
             CrossError::GainCount => Refused::plain(4),
             CrossError::Split => Refused::plain(10),
             CrossError::Gain => Refused::plain(5),
-            CrossError::BassLength | CrossError::HornLength | CrossError::PartFrame =>
-                Refused::plain(6),
-            CrossError::TooLong => Refused::plain(7),
-            CrossError::Sample(place) => Refused { number: 8, place },
+            CrossError::BassLength | CrossError::HornLength => Refused::plain(6),
+            CrossError::Input(error) => error.refused(),
         }
     }
 

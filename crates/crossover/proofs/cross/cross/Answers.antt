@@ -17,8 +17,8 @@ use Rattle.octave.proofs.Memories.{kept_wrong, kept_right, counts_few, bands_kep
 use Rattle.octave.proofs.Ranges.{count_of_lem}
 use Rattle.octave.proofs.Inputs.{input_refused, input_accepted, input_right, input_kept}
 use Rattle.crossover.specs.declared.cross.CrossError.{CrossError}
-use Rattle.crossover.specs.declared.cross.CrossError.TheVariants.{Memory}
-use Rattle.crossover.specs.Cross.{split_allowed, crossed, of_input}
+use Rattle.crossover.specs.declared.cross.CrossError.TheVariants.{Memory, Input}
+use Rattle.crossover.specs.Cross.{split_allowed, crossed}
 use Rattle.crossover.proofs.cross.cross.Goals as goal
 
 -- the split, as the machine hands it on
@@ -86,7 +86,7 @@ returns-in_err-frames c =
     let w = split-told k (c.if-gains-bands.false ∙ c.bands.ensures) c.ranges.split c.within.ensures c.if-not-within.false in
     let p = err_from_is_err_and c.from_residual-in_err-frames.result c.from_residual-in_err-frames.ensures.1 in
     let rest =
-    input_refused (m, c.args.bass.now, c.args.horn.now) (crossed m gains (nat_abs c.args.split) input) (written (frames_of m input)) (λ e. Err (of_input e)) (channels_in m) input _
+    input_refused (m, c.args.bass.now, c.args.horn.now) (crossed m gains (nat_abs c.args.split) input) (written (frames_of m input)) (λ e. Err (Input e)) (channels_in m) input _
     (input_kept k input c.in_err-frames.ensures) in
     rw (p.1, p.2) (search (goes_on, branches) depth 14)
 
@@ -119,6 +119,6 @@ returns c =
     let right = input_right (channels_in m) input c.in_ok-frames.frames (input_kept k input c.in_ok-frames.ensures) in
     let fed = rw (to_z-of_z c.ranges.split) at c.feed_both.ensures in
     let rest =
-    input_accepted (m, c.args.bass.now, c.args.horn.now) (crossed m gains (nat_abs c.args.split) input) (written (frames_of m input)) (λ e. Err (of_input e)) (channels_in m) input right
+    input_accepted (m, c.args.bass.now, c.args.horn.now) (crossed m gains (nat_abs c.args.split) input) (written (frames_of m input)) (λ e. Err (Input e)) (channels_in m) input right
     (ap written right.frames_are) fed in
     search (goes_on, branches) depth 14
