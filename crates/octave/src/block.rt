@@ -38,7 +38,7 @@ impl From<InputError> for BlockError {
     }
 }
 
-// The samples through the lines, weighed once. Everything has been judged.
+// The samples through the lines, weighed once: the empty slices ask for no second weighing, as `pass` says. Everything has been judged.
 fn equalise(memory: &mut [i32], gains: &[i32], input: &[i32], output: &mut [i32], counts: Counts)
     requires { Judged counts memory.old gains.now input.now output.old }
     ensures { (memory.new, output.new) ≡ equalised memory.old gains.now input.now }
