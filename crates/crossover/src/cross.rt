@@ -7,7 +7,7 @@ ghost use Rattle.crossover.specs.Cross.{cross_of};
 ghost use Rattle.std.proofs.Common.{rules};
 
 use crate::both::feed_both;
-use answers::range::{first_outside, within};
+use answers::range::first_outside;
 use answers::refused::{Numbered, Refused};
 use answers::unit::LARGEST_GAIN;
 use octave::input::{InputError, judge_input};
@@ -74,9 +74,10 @@ pub fn cross(
     if gains.len() != counts.bands() {
         return Err(CrossError::GainCount);
     }
-    if !within(1, (gains.len() - 1) as i32, split) {
-        return Err(CrossError::Split);
-    }
+    let s = match usize::try_from(split) {
+        Ok(s) if (1..gains.len()).contains(&s) => s,
+        _ => return Err(CrossError::Split),
+    };
     if first_outside(0, LARGEST_GAIN, gains) < gains.len() {
         return Err(CrossError::Gain);
     }
@@ -87,6 +88,6 @@ pub fn cross(
         return Err(CrossError::HornLength);
     }
     let frames = judge_input(input, counts)?;
-    feed_both(memory, gains, split as usize, input, bass, horn, counts);
+    feed_both(memory, gains, s, input, bass, horn, counts);
     Ok(frames)
 }
