@@ -16,13 +16,14 @@ use Rattle.answers.specs.Judging.{carried, all_refuse}
 use Rattle.answers.specs.Range.{first_outside, all_within}
 use Rattle.answers.specs.Unit.{least_sample, most_sample, largest_gain, block_limit}
 use Rattle.answers.proofs.Laws.{in_line, decided, every, eaching, unnumbered_holds, refused_keeps}
+use Rattle.octave.specs.declared.input.InputError.TheVariants.{PartFrame, TooLong, Sample}
 use Rattle.octave.specs.declared.memory.Fault.TheVariants.{CountWrong, LengthWrong, PositionOutside}
 use Rattle.octave.specs.Answer.{fault_number}
 use Rattle.octave.specs.Memory.{line_length, memory_length, count_allowed, channels_allowed, held_in, bands_in, channels_in, position_within, memory_checks, fault_of}
 use Rattle.octave.specs.Block.{frames_of}
 use Rattle.octave.proofs.Refusals.{fault_number_lem, Told, not_fault, not_eight, eight}
 use Rattle.crossover.specs.declared.cross.CrossError.{CrossError}
-use Rattle.crossover.specs.declared.cross.CrossError.TheVariants.{Memory, GainCount, Split, Gain, BassLength, HornLength, PartFrame, TooLong, Sample}
+use Rattle.crossover.specs.declared.cross.CrossError.TheVariants.{Memory, GainCount, Split, Gain, BassLength, HornLength, Input}
 use Rattle.crossover.specs.Answer.{cross_answer}
 use Rattle.crossover.specs.Cross.{split_allowed, cross_checks, crossed, cross_of}
 
@@ -48,9 +49,9 @@ module _ (memory gains : List ℤ) (split : ℤ) (input low high : List ℤ) whe
       check (all_within (pos 0) (pos largest_gain) gains) (Err Gain) ∷
       check (eqb (length low) (length input)) (Err BassLength) ∷
       check (eqb (length high) (length input)) (Err HornLength) ∷
-      check (eqb (length input % c) 0) (Err PartFrame) ∷
-      check (leb (frames_of memory input) block_limit) (Err TooLong) ∷
-      check (all_within least_sample most_sample input) (Err (Sample (first_outside least_sample most_sample input))) ∷ [])
+      check (eqb (length input % c) 0) (Err (Input PartFrame)) ∷
+      check (leb (frames_of memory input) block_limit) (Err (Input TooLong)) ∷
+      check (all_within least_sample most_sample input) (Err (Input (Sample (first_outside least_sample most_sample input)))) ∷ [])
       (memory, low, high) (Ok (frames_of memory input)) (crossed memory gains (nat_abs split) input)
   unfolding carried
   one_list =
@@ -78,4 +79,4 @@ module _ (memory gains : List ℤ) (split : ℤ) (input low high : List ℤ) whe
 pub first_bad_lem : (memory gains : List ℤ) (split : ℤ) (input low high : List ℤ) (i : ℕ) → Told cross_answer input i (cross_of memory gains split input low high).result
 first_bad_lem memory gains split input low high i =
     every (memory, low, high) (crossed memory gains (nat_abs split) input) (Ok (frames_of memory input)) (Told cross_answer input i) (cross_checks memory gains split input low high)
-    (search (eaching, not_fault cross_answer input i (λ f. Err (Memory f)) (λ f. refl), not_eight cross_answer input i, eight cross_answer input i (λ k. Err (Sample k)) (λ k. refl)) depth 24)
+    (search (eaching, not_fault cross_answer input i (λ f. Err (Memory f)) (λ f. refl), not_eight cross_answer input i, eight cross_answer input i (λ k. Err (Input (Sample k))) (λ k. refl)) depth 24)

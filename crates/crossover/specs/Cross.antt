@@ -5,23 +5,16 @@ use Rattle.answers.specs.Range.{within, first_outside, all_within}
 use Rattle.answers.specs.Unit.{least_sample, most_sample, largest_gain, block_limit}
 use Rattle.frames.specs.Frames.{woven}
 use Rattle.tree.specs.Signal.{gain_of}
-use Rattle.octave.specs.declared.input.InputError.{InputError}
-use Rattle.octave.specs.declared.input.InputError.TheVariants as input_error
+use Rattle.octave.specs.declared.input.InputError.TheVariants.{PartFrame, TooLong, Sample}
 use Rattle.octave.specs.Memory.{bands_in, channels_in, accepts, fault_of}
 use Rattle.octave.specs.Block.{frames_of, ran_side, equalised}
 use Rattle.crossover.specs.declared.cross.CrossError.{CrossError}
-use Rattle.crossover.specs.declared.cross.CrossError.TheVariants.{Memory, GainCount, Split, Gain, BassLength, HornLength, PartFrame, TooLong, Sample}
+use Rattle.crossover.specs.declared.cross.CrossError.TheVariants.{Memory, GainCount, Split, Gain, BassLength, HornLength, Input}
 use Rattle.crossover.specs.Feeds.{Feed, bass, horn, goes, feed_outputs}
 
 -- rule 16.1: a split leaves a band to each feed
 abbrev pub split_allowed : (M : ℕ) → ℤ → Bool
 split_allowed M split = within (pos 1) (pos (M - 1)) split
-
--- rule 6.8, crossover: a wrong input, as this call answers it
-abbrev pub of_input : InputError → CrossError
-of_input input_error.PartFrame = PartFrame
-of_input input_error.TooLong = TooLong
-of_input (input_error.Sample i) = Sample i
 
 -- rule 6.8, crossover: its checks in order; 8 tells the place of the first bad sample
 abbrev pub cross_checks : (memory gains : List ℤ) (split : ℤ) (input low high : List ℤ) → List (Check (Result ℕ CrossError))
@@ -32,9 +25,9 @@ cross_checks memory gains split input low high =
     check (all_within (pos 0) (pos largest_gain) gains) (Err Gain) ∷
     check (eqb (length low) (length input)) (Err BassLength) ∷
     check (eqb (length high) (length input)) (Err HornLength) ∷
-    check (eqb (length input % channels_in memory) 0) (Err PartFrame) ∷
-    check (leb (frames_of memory input) block_limit) (Err TooLong) ∷
-    check (all_within least_sample most_sample input) (Err (Sample (first_outside least_sample most_sample input))) ∷ []
+    check (eqb (length input % channels_in memory) 0) (Err (Input PartFrame)) ∷
+    check (leb (frames_of memory input) block_limit) (Err (Input TooLong)) ∷
+    check (all_within least_sample most_sample input) (Err (Input (Sample (first_outside least_sample most_sample input)))) ∷ []
 
 -- rule 16.2: what a feed is written, of every side
 abbrev pub feed_of : Feed → (memory gains : List ℤ) (s : ℕ) (input : List ℤ) → List ℤ

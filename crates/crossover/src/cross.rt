@@ -1,19 +1,19 @@
 // The crossover call.
 ghost use Rattle.std.specs.Prelude.{◌≡◌};
 ghost use Rattle.answers.specs.Checks.{Done};
-ghost use Rattle.crossover.specs.declared.cross.CrossError.TheVariants.{Memory};
+ghost use Rattle.crossover.specs.declared.cross.CrossError.TheVariants.{Memory, Input};
 ghost use Rattle.crossover.specs.Answer.{cross_refusal};
-ghost use Rattle.crossover.specs.Cross.{of_input, cross_of};
+ghost use Rattle.crossover.specs.Cross.{cross_of};
 ghost use Rattle.std.proofs.Common.{rules};
 
 use crate::both::feed_both;
-use answers::range::{first_outside, within};
+use answers::range::first_outside;
 use answers::refused::{Numbered, Refused};
 use answers::unit::LARGEST_GAIN;
 use octave::input::{InputError, judge_input};
 use octave::memory::{Fault, judge};
 
-// Why a crossover call was refused; a sample by its place in the input.
+// Why a crossover call was refused.
 #[derive(Clone, Copy, Debug, PartialEq, Eq)]
 pub enum CrossError {
     Memory(Fault),
@@ -22,9 +22,7 @@ pub enum CrossError {
     Gain,
     BassLength,
     HornLength,
-    PartFrame,
-    TooLong,
-    Sample(usize),
+    Input(InputError),
 }
 
 impl From<Fault> for CrossError {
@@ -36,14 +34,10 @@ impl From<Fault> for CrossError {
 }
 
 impl From<InputError> for CrossError {
-    ghost from_gives = { λ error r. r ≡ of_input error };
+    ghost from_gives = { λ error r. r ≡ Input error };
 
     fn from(error: InputError) -> CrossError {
-        match error {
-            InputError::PartFrame => CrossError::PartFrame,
-            InputError::TooLong => CrossError::TooLong,
-            InputError::Sample(place) => CrossError::Sample(place),
-        }
+        CrossError::Input(error)
     }
 }
 
@@ -56,10 +50,8 @@ impl Numbered for CrossError {
             CrossError::GainCount => Refused::plain(4),
             CrossError::Split => Refused::plain(10),
             CrossError::Gain => Refused::plain(5),
-            CrossError::BassLength | CrossError::HornLength | CrossError::PartFrame =>
-                Refused::plain(6),
-            CrossError::TooLong => Refused::plain(7),
-            CrossError::Sample(place) => Refused { number: 8, place },
+            CrossError::BassLength | CrossError::HornLength => Refused::plain(6),
+            CrossError::Input(error) => error.refused(),
         }
     }
 
@@ -82,9 +74,10 @@ pub fn cross(
     if gains.len() != counts.bands() {
         return Err(CrossError::GainCount);
     }
-    if !within(1, (gains.len() - 1) as i32, split) {
-        return Err(CrossError::Split);
-    }
+    let s = match usize::try_from(split) {
+        Ok(s) if (1..gains.len()).contains(&s) => s,
+        _ => return Err(CrossError::Split),
+    };
     if first_outside(0, LARGEST_GAIN, gains).is_some() {
         return Err(CrossError::Gain);
     }
@@ -95,6 +88,6 @@ pub fn cross(
         return Err(CrossError::HornLength);
     }
     let frames = judge_input(input, counts)?;
-    feed_both(memory, gains, split as usize, input, bass, horn, counts);
+    feed_both(memory, gains, s, input, bass, horn, counts);
     Ok(frames)
 }

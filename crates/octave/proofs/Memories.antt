@@ -23,9 +23,10 @@ use Rattle.octave.specs.declared.memory.Fault.{Fault}
 use Rattle.octave.specs.declared.memory.Fault.TheVariants.{CountWrong, PositionOutside}
 use Rattle.octave.specs.declared.memory.CountError.{CountError}
 use Rattle.octave.specs.declared.memory.CountError.TheVariants.{BandCount, ChannelCount}
+use Rattle.octave.specs.declared.memory.PrepareError.TheVariants as prepare_error
 use Rattle.octave.specs.Counts.{Counts}
 use Rattle.octave.specs.Helpers.{KeptCounts}
-use Rattle.octave.specs.Memory.{counts_of, counts_in, of_count, memory_length_of, prepare_of, line_length, side_places, memory_length, count_allowed, channels_allowed, prepared, Held, head_places, held_in, memory_of, bands_in, channels_in, position_within, memory_checks, accepts, fault_of, kept_of}
+use Rattle.octave.specs.Memory.{counts_of, counts_in, memory_length_of, prepare_of, line_length, side_places, memory_length, count_allowed, channels_allowed, prepared, Held, head_places, held_in, memory_of, bands_in, channels_in, position_within, memory_checks, accepts, fault_of, kept_of}
 use Rattle.octave.proofs.Ranges.{Count, bands_of, channels_of_lem}
 
 -- ---- the head and the lines
@@ -231,10 +232,10 @@ module _ (bands channels : ℤ) where
       search (chosen_on, chosen_last)
 
   -- of preparing
-  pub prepare_refused : (m : List ℤ) (e : CountError) → Err e ≡ counts_of bands channels → Done (prepare_of bands channels m) (Err (of_count e)) m
+  pub prepare_refused : (m : List ℤ) (e : CountError) → Err e ≡ counts_of bands channels → Done (prepare_of bands channels m) (Err (prepare_error.Count e)) m
   prepare_refused m e is = by (counts_refused e is)
     where
-      by : {e : CountError} → CountsRefused bands channels e → Done (prepare_of bands channels m) (Err (of_count e)) m
+      by : {e : CountError} → CountsRefused bands channels e → Done (prepare_of bands channels m) (Err (prepare_error.Count e)) m
       by (bands_wrong p) = search judging depth 12
       by (channels_wrong p q) = search judging depth 12
 

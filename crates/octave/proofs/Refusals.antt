@@ -19,7 +19,8 @@ use Rattle.answers.proofs.Laws.{in_line, decided, every, eaching, unnumbered_hol
 use Rattle.answers.proofs.Ranges.{first_at}
 use Rattle.frames.proofs.Laws.{whole_frames_lem}
 use Rattle.octave.specs.declared.block.BlockError.{BlockError}
-use Rattle.octave.specs.declared.block.BlockError.TheVariants.{Memory, GainCount, Gain, OutputLength, PartFrame, TooLong, Sample}
+use Rattle.octave.specs.declared.block.BlockError.TheVariants.{Memory, GainCount, Gain, OutputLength, Input}
+use Rattle.octave.specs.declared.input.InputError.TheVariants.{PartFrame, TooLong, Sample}
 use Rattle.octave.specs.declared.memory.Fault.{Fault}
 use Rattle.octave.specs.declared.memory.Fault.TheVariants.{CountWrong, LengthWrong, PositionOutside}
 use Rattle.octave.specs.Answer.{fault_number, block_answer}
@@ -51,9 +52,9 @@ pub one_list : (memory gains input output : List ℤ) →
     check (eqb (length gains) M) (Err GainCount) ∷
     check (all_within (pos 0) (pos largest_gain) gains) (Err Gain) ∷
     check (eqb (length output) (length input)) (Err OutputLength) ∷
-    check (eqb (length input % c) 0) (Err PartFrame) ∷
-    check (leb (frames_of memory input) block_limit) (Err TooLong) ∷
-    check (all_within least_sample most_sample input) (Err (Sample (first_outside least_sample most_sample input))) ∷ [])
+    check (eqb (length input % c) 0) (Err (Input PartFrame)) ∷
+    check (leb (frames_of memory input) block_limit) (Err (Input TooLong)) ∷
+    check (all_within least_sample most_sample input) (Err (Input (Sample (first_outside least_sample most_sample input)))) ∷ [])
     (memory, output) (Ok (frames_of memory input)) (equalised memory gains input)
 unfolding carried
 one_list memory gains input output =
@@ -87,7 +88,7 @@ module _ {R : Type 0} (answer_of : R → Answer ℕ) (input : List ℤ) (i : ℕ
 pub first_bad_lem : (memory gains input output : List ℤ) (i : ℕ) → Told block_answer input i (block_of memory gains input output).result
 first_bad_lem memory gains input output i =
     every (memory, output) (equalised memory gains input) (Ok (frames_of memory input)) (Told block_answer input i) (block_checks memory gains input output)
-    (search (eaching, not_fault block_answer input i (λ f. Err (Memory f)) (λ f. refl), not_eight block_answer input i, eight block_answer input i (λ k. Err (Sample k)) (λ k. refl)) depth 20)
+    (search (eaching, not_fault block_answer input i (λ f. Err (Memory f)) (λ f. refl), not_eight block_answer input i, eight block_answer input i (λ k. Err (Input (Sample k))) (λ k. refl)) depth 20)
 
 -- the place of a bad sample in a block that is not too long
 pub bad_place : (memory input : List ℤ) → accepts memory ≡ true → eqb (length input % channels_in memory) 0 ≡ true → leb (frames_of memory input) block_limit ≡ true →

@@ -5,6 +5,7 @@ use Rattle.answers.specs.declared.refused.Refused.{Refused}
 use Rattle.octave.specs.declared.memory.CountError as count
 use Rattle.octave.specs.declared.memory.PrepareError as prepare
 use Rattle.octave.specs.declared.memory.Fault as fault
+use Rattle.octave.specs.declared.input.InputError as input
 use Rattle.octave.specs.declared.block.BlockError as block
 
 -- rule 6.8, memory length
@@ -18,8 +19,7 @@ length_answer r = answered count_refusal r
 
 -- rule 6.8, prepare
 abbrev pub prepare_refusal : prepare.PrepareError → Refused
-prepare_refusal prepare.TheVariants.BandCount = plain 1
-prepare_refusal prepare.TheVariants.ChannelCount = plain 9
+prepare_refusal (prepare.TheVariants.Count e) = count_refusal e
 prepare_refusal prepare.TheVariants.MemoryLength = plain 2
 
 -- rule 6.8, prepare: the call's answer
@@ -36,15 +36,19 @@ fault_number fault.TheVariants.PositionOutside = 33
 abbrev pub fault_refusal : fault.Fault → Refused
 fault_refusal f = plain (fault_number f)
 
--- rule 6.8, block: 8 alone has a place, that of the sample
+-- rule 6.8, block: of a wrong input, 8 alone has a place, that of the sample
+abbrev pub input_refusal : input.InputError → Refused
+input_refusal input.TheVariants.PartFrame = plain 6
+input_refusal input.TheVariants.TooLong = plain 7
+input_refusal (input.TheVariants.Sample i) = record { number = 8; place = i }
+
+-- rule 6.8, block
 abbrev pub block_refusal : block.BlockError → Refused
 block_refusal (block.TheVariants.Memory f) = fault_refusal f
 block_refusal block.TheVariants.GainCount = plain 4
 block_refusal block.TheVariants.Gain = plain 5
 block_refusal block.TheVariants.OutputLength = plain 6
-block_refusal block.TheVariants.PartFrame = plain 6
-block_refusal block.TheVariants.TooLong = plain 7
-block_refusal (block.TheVariants.Sample i) = record { number = 8; place = i }
+block_refusal (block.TheVariants.Input e) = input_refusal e
 
 -- rule 6.8, block: the call's answer
 abbrev pub block_answer : Result ℕ block.BlockError → Answer ℕ

@@ -7,9 +7,8 @@ use Rattle.frames.specs.Frames.{side_of, woven, behind, places_of}
 use Rattle.tree.specs.Prototype.{published}
 use Rattle.tree.specs.Signal.{gain_of}
 use Rattle.octave.specs.declared.block.BlockError.{BlockError}
-use Rattle.octave.specs.declared.block.BlockError.TheVariants.{Memory, GainCount, Gain, OutputLength, PartFrame, TooLong, Sample}
-use Rattle.octave.specs.declared.input.InputError.{InputError}
-use Rattle.octave.specs.declared.input.InputError.TheVariants as input_error
+use Rattle.octave.specs.declared.block.BlockError.TheVariants.{Memory, GainCount, Gain, OutputLength, Input}
+use Rattle.octave.specs.declared.input.InputError.TheVariants.{PartFrame, TooLong, Sample}
 use Rattle.lines.specs.Cascade.{Ran, run}
 use Rattle.octave.specs.Memory.{line_length, side_places, held_in, memory_of, bands_in, channels_in, accepts, fault_of}
 use Rattle.weighing.specs.Weighing.{outputs}
@@ -18,12 +17,6 @@ use Rattle.weighing.specs.Weighing.{outputs}
 abbrev pub frames_of : (memory input : List ℤ) → ℕ
 frames_of memory input = length input / channels_in memory
 
--- rule 6.8, block: a wrong input, as this call answers it
-abbrev pub of_input : InputError → BlockError
-of_input input_error.PartFrame = PartFrame
-of_input input_error.TooLong = TooLong
-of_input (input_error.Sample i) = Sample i
-
 -- rule 6.8, block: its checks in order; 8 tells the place of the first bad sample
 abbrev pub block_checks : (memory gains input output : List ℤ) → List (Check (Result ℕ BlockError))
 block_checks memory gains input output =
@@ -31,9 +24,9 @@ block_checks memory gains input output =
     check (eqb (length gains) (bands_in memory)) (Err GainCount) ∷
     check (all_within (pos 0) (pos largest_gain) gains) (Err Gain) ∷
     check (eqb (length output) (length input)) (Err OutputLength) ∷
-    check (eqb (length input % channels_in memory) 0) (Err PartFrame) ∷
-    check (leb (frames_of memory input) block_limit) (Err TooLong) ∷
-    check (all_within least_sample most_sample input) (Err (Sample (first_outside least_sample most_sample input))) ∷ []
+    check (eqb (length input % channels_in memory) 0) (Err (Input PartFrame)) ∷
+    check (leb (frames_of memory input) block_limit) (Err (Input TooLong)) ∷
+    check (all_within least_sample most_sample input) (Err (Input (Sample (first_outside least_sample most_sample input)))) ∷ []
 
 -- rule 5.9: one side's samples through its own lines in turn, from the position on
 abbrev pub ran_side : (memory input : List ℤ) → (s : ℕ) → Ran

@@ -7,9 +7,9 @@ use Rattle.answers.specs.Unit.{fewest_bands, most_bands, fewest_channels, most_c
 use Rattle.tree.specs.Prototype.{published}
 use Rattle.tree.specs.Tree.{delay}
 use Rattle.octave.specs.declared.memory.CountError.{CountError}
-use Rattle.octave.specs.declared.memory.CountError.TheVariants as count_error
+use Rattle.octave.specs.declared.memory.CountError.TheVariants.{BandCount, ChannelCount}
 use Rattle.octave.specs.declared.memory.PrepareError.{PrepareError}
-use Rattle.octave.specs.declared.memory.PrepareError.TheVariants.{BandCount, ChannelCount, MemoryLength}
+use Rattle.octave.specs.declared.memory.PrepareError.TheVariants.{Count, MemoryLength}
 use Rattle.octave.specs.declared.memory.Fault.{Fault}
 use Rattle.octave.specs.declared.memory.Fault.TheVariants.{CountWrong, LengthWrong, PositionOutside}
 use Rattle.octave.specs.Counts.{Counts}
@@ -56,7 +56,7 @@ channels_allowed = within fewest_channels most_channels
 
 -- rule 6.8: what two counts are judged by, in order
 abbrev pub count_checks : {A : Type 0} → (bands channels : ℤ) → List (Check (Result A CountError))
-count_checks bands channels = check (count_allowed bands) (Err count_error.BandCount) ∷ check (channels_allowed channels) (Err count_error.ChannelCount) ∷ []
+count_checks bands channels = check (count_allowed bands) (Err BandCount) ∷ check (channels_allowed channels) (Err ChannelCount) ∷ []
 
 -- rules 1.3, 1.10: two allowed counts, or which of them is not
 abbrev pub counts_of : (bands channels : ℤ) → Result Counts CountError
@@ -70,16 +70,11 @@ memory_length_of bands channels = choose (count_checks bands channels) (Ok (memo
 abbrev pub prepared : (M channels : ℕ) → List ℤ
 prepared M c = memory_of (record { count = pos M; channels = pos c; position = pos 0; lines = replicate (c * side_places M) (pos 0) })
 
--- rule 6.8, prepare: a wrong count, as this call answers it
-abbrev pub of_count : CountError → PrepareError
-of_count count_error.BandCount = BandCount
-of_count count_error.ChannelCount = ChannelCount
-
 -- rule 6.8, prepare: its checks in order
 abbrev pub prepare_checks : (bands channels : ℤ) → List ℤ → List (Check (Result ℕ PrepareError))
 prepare_checks bands channels memory =
-    check (count_allowed bands) (Err BandCount) ∷
-    check (channels_allowed channels) (Err ChannelCount) ∷
+    check (count_allowed bands) (Err (Count BandCount)) ∷
+    check (channels_allowed channels) (Err (Count ChannelCount)) ∷
     check (eqb (length memory) (memory_length (nat_abs bands) (nat_abs channels))) (Err MemoryLength) ∷ []
 
 -- rule 6.8, prepare: and the call: the delay and the prepared memory

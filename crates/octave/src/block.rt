@@ -1,8 +1,8 @@
 // The block call.
 ghost use Rattle.std.specs.Prelude.{◌≡◌};
 ghost use Rattle.answers.specs.Checks.{Done};
-ghost use Rattle.octave.specs.declared.block.BlockError.TheVariants.{Memory};
-ghost use Rattle.octave.specs.Block.{of_input, equalised, block_of};
+ghost use Rattle.octave.specs.declared.block.BlockError.TheVariants.{Memory, Input};
+ghost use Rattle.octave.specs.Block.{equalised, block_of};
 ghost use Rattle.octave.specs.Helpers.{Judged};
 
 use crate::counts::Counts;
@@ -12,16 +12,14 @@ use crate::pass::pass;
 use answers::range::first_outside;
 use answers::unit::LARGEST_GAIN;
 
-// Why a block was refused; a sample by its place in the input.
+// Why a block was refused.
 #[derive(Clone, Copy, Debug, PartialEq, Eq)]
 pub enum BlockError {
     Memory(Fault),
     GainCount,
     Gain,
     OutputLength,
-    PartFrame,
-    TooLong,
-    Sample(usize),
+    Input(InputError),
 }
 
 impl From<Fault> for BlockError {
@@ -33,18 +31,14 @@ impl From<Fault> for BlockError {
 }
 
 impl From<InputError> for BlockError {
-    ghost from_gives = { λ error r. r ≡ of_input error };
+    ghost from_gives = { λ error r. r ≡ Input error };
 
     fn from(error: InputError) -> BlockError {
-        match error {
-            InputError::PartFrame => BlockError::PartFrame,
-            InputError::TooLong => BlockError::TooLong,
-            InputError::Sample(place) => BlockError::Sample(place),
-        }
+        BlockError::Input(error)
     }
 }
 
-// The samples through the lines, weighed once. Everything has been judged.
+// The samples through the lines, weighed once: the empty slices ask for no second weighing, as `pass` says. Everything has been judged.
 fn equalise(memory: &mut [i32], gains: &[i32], input: &[i32], output: &mut [i32], counts: Counts)
     requires { Judged counts memory.old gains.now input.now output.old }
     ensures { (memory.new, output.new) ≡ equalised memory.old gains.now input.now }

@@ -7,7 +7,7 @@ use answers::range::first_outside;
 use answers::unit::{BLOCK_LIMIT, LEAST_SAMPLE, MOST_SAMPLE};
 use frames::count::{frames_in, whole_frames};
 
-// What is wrong with an input; a sample by its place.
+// What is wrong with an input; a sample by its place in it.
 #[derive(Clone, Copy, Debug, PartialEq, Eq)]
 pub enum InputError {
     PartFrame,

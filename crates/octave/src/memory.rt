@@ -1,12 +1,12 @@
 // The line memory: its length for a band count and a channel count, preparing it, and judging a lent one.
 ghost use Rattle.std.specs.Prelude.{◌≡◌};
 ghost use Rattle.answers.specs.Checks.{Done};
+ghost use Rattle.octave.specs.declared.memory.PrepareError.TheVariants.{Count};
 ghost use Rattle.octave.specs.declared.memory.Fault.TheVariants.{CountWrong};
-ghost use Rattle.octave.specs.Memory.{of_count, memory_length_of, prepare_of, kept_of};
+ghost use Rattle.octave.specs.Memory.{memory_length_of, prepare_of, kept_of};
 
 pub use crate::counts::Counts;
 use crate::layout::{CHANNELS, COUNT, POSITION};
-use whole::places::clear;
 
 // Which of two counts is not allowed.
 #[derive(Clone, Copy, Debug, PartialEq, Eq)]
@@ -18,19 +18,15 @@ pub enum CountError {
 // Why a memory was not prepared.
 #[derive(Clone, Copy, Debug, PartialEq, Eq)]
 pub enum PrepareError {
-    BandCount,
-    ChannelCount,
+    Count(CountError),
     MemoryLength,
 }
 
 impl From<CountError> for PrepareError {
-    ghost from_gives = { λ error r. r ≡ of_count error };
+    ghost from_gives = { λ error r. r ≡ Count error };
 
     fn from(error: CountError) -> PrepareError {
-        match error {
-            CountError::BandCount => PrepareError::BandCount,
-            CountError::ChannelCount => PrepareError::ChannelCount,
-        }
+        PrepareError::Count(error)
     }
 }
 
@@ -66,7 +62,7 @@ pub fn prepare(bands: i32, channels: i32, memory: &mut [i32]) -> Result<usize, P
     if memory.len() != counts.memory_length() {
         return Err(PrepareError::MemoryLength);
     }
-    clear(memory);
+    memory.fill(0);
     memory[COUNT] = bands;
     memory[CHANNELS] = channels;
     Ok(counts.line_length() - 9)

@@ -1,8 +1,9 @@
 // The errors of this crate's calls in the rule book's numbers.
-ghost use Rattle.octave.specs.Answer.{count_refusal, prepare_refusal, fault_refusal, block_refusal};
+ghost use Rattle.octave.specs.Answer.{count_refusal, prepare_refusal, fault_refusal, input_refusal, block_refusal};
 ghost use Rattle.std.proofs.Common.{rules};
 
 use crate::block::BlockError;
+use crate::input::InputError;
 use crate::memory::{CountError, Fault, PrepareError};
 use answers::refused::{Numbered, Refused};
 
@@ -24,8 +25,7 @@ impl Numbered for PrepareError {
 
     fn refused(self) -> Refused {
         match self {
-            PrepareError::BandCount => Refused::plain(1),
-            PrepareError::ChannelCount => Refused::plain(9),
+            PrepareError::Count(error) => error.refused(),
             PrepareError::MemoryLength => Refused::plain(2),
         }
     }
@@ -47,6 +47,20 @@ impl Numbered for Fault {
     ghost has_number = { Prim.search rules };
 }
 
+impl Numbered for InputError {
+    ghost refusal = { input_refusal };
+
+    fn refused(self) -> Refused {
+        match self {
+            InputError::PartFrame => Refused::plain(6),
+            InputError::TooLong => Refused::plain(7),
+            InputError::Sample(place) => Refused { number: 8, place },
+        }
+    }
+
+    ghost has_number = { Prim.search rules };
+}
+
 impl Numbered for BlockError {
     ghost refusal = { block_refusal };
 
@@ -55,9 +69,8 @@ impl Numbered for BlockError {
             BlockError::Memory(fault) => fault.refused(),
             BlockError::GainCount => Refused::plain(4),
             BlockError::Gain => Refused::plain(5),
-            BlockError::OutputLength | BlockError::PartFrame => Refused::plain(6),
-            BlockError::TooLong => Refused::plain(7),
-            BlockError::Sample(place) => Refused { number: 8, place },
+            BlockError::OutputLength => Refused::plain(6),
+            BlockError::Input(error) => error.refused(),
         }
     }
 

@@ -6,8 +6,8 @@ use crate::layout::{HEAD, POSITION};
 use block_sides::run::run;
 
 // The samples through the lines from the position on, and the position afterwards; the output under `gains`, and in the same pass, where there are
-// other gains, a second one under these.
-// Each gains and their output are handed on as `run` takes them: a pair would only be taken apart again.
+// other gains, a second one under these. Without a second weighing its slices are empty.
+// Each gains and their output are handed on as `run` takes them: a pair, or an Option of one, would be taken apart again in each function below.
 pub fn pass(
     memory: &mut [i32],
     gains: &[i32],

@@ -2,8 +2,6 @@
 // They are helpers for the crates above, not calls of the product.
 #![tactic(auto)]
 
-pub mod counts;
 pub mod limiting;
-pub mod places;
 pub mod products;
 pub mod rounding;

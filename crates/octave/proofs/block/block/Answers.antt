@@ -9,9 +9,9 @@ use Rattle.answers.proofs.Branches.{branches, judging, none_fails}
 use borrow.Author.Tests.{eqb-true}
 use Rattle.octave.specs.declared.memory.Fault.{Fault}
 use Rattle.octave.specs.declared.block.BlockError.{BlockError}
-use Rattle.octave.specs.declared.block.BlockError.TheVariants.{Memory}
+use Rattle.octave.specs.declared.block.BlockError.TheVariants.{Memory, Input}
 use Rattle.octave.specs.Memory.{channels_in}
-use Rattle.octave.specs.Block.{frames_of, equalised, of_input}
+use Rattle.octave.specs.Block.{frames_of, equalised}
 use Rattle.octave.proofs.Memories.{kept_wrong, kept_right, bands_kept}
 use Rattle.octave.proofs.Inputs.{input_refused, input_accepted, input_right, input_kept}
 use Rattle.octave.proofs.block.block.Goals as goal
@@ -55,7 +55,7 @@ returns-in_err-frames c =
     let k = kept_right m c.in_ok-counts.counts c.in_ok-counts.ensures in
     let b = bands_kept k c.bands.ensures in
     let p = err_from_is_err_and c.from_residual-in_err-frames.result c.from_residual-in_err-frames.ensures.1 in
-    let rest = input_refused (m, c.args.output.now) (equalised m c.args.gains.now input) (written (frames_of m input)) (λ e. Err (of_input e)) (channels_in m) input _ (input_kept k input c.in_err-frames.ensures) in
+    let rest = input_refused (m, c.args.output.now) (equalised m c.args.gains.now input) (written (frames_of m input)) (λ e. Err (Input e)) (channels_in m) input _ (input_kept k input c.in_err-frames.ensures) in
     rw (p.1, p.2) (search (goes_on, branches) depth 12)
 
 pub equalise-requires : goal.equalise-requires
@@ -80,5 +80,5 @@ returns c =
     let b = bands_kept k c.bands.ensures in
     let right = input_right (channels_in m) input c.in_ok-frames.frames (input_kept k input c.in_ok-frames.ensures) in
     let rest =
-    input_accepted (m, c.args.output.now) (equalised m c.args.gains.now input) (written (frames_of m input)) (λ e. Err (of_input e)) (channels_in m) input right (ap written right.frames_are) c.equalise.ensures in
+    input_accepted (m, c.args.output.now) (equalised m c.args.gains.now input) (written (frames_of m input)) (λ e. Err (Input e)) (channels_in m) input right (ap written right.frames_are) c.equalise.ensures in
     search (goes_on, branches) depth 12

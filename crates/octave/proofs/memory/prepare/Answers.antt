@@ -38,5 +38,5 @@ returns c =
     let late = ap delayed (delay_is (nat_abs c.args.bands) (c.line_length.ensures ∙ ap (λ (x : Counts). line_length x.bands) k.counts_are)) in
     let bands-back = to_z-of_z c.ranges.bands ∙ sym (pos-nat_abs c.args.bands (bands_of c.args.bands b).not_negative) in
     let channels-back = to_z-of_z c.ranges.channels ∙ sym (pos-nat_abs c.args.channels (channels_of_lem c.args.channels n).not_negative) in
-    let cleared = ap₂ (λ (l : List ℤ) (z : ℤ). set l 1 z) (ap₂ (λ (l : List ℤ) (z : ℤ). set l 0 z) c.clear.ensures bands-back) channels-back ∙ prepared_is (nat_abs c.args.bands) (nat_abs c.args.channels) long in
+    let cleared = ap₂ (λ (l : List ℤ) (z : ℤ). set l 1 z) (ap₂ (λ (l : List ℤ) (z : ℤ). set l 0 z) (c.fill.ensures.after (λ y h. h)) bands-back) channels-back ∙ prepared_is (nat_abs c.args.bands) (nat_abs c.args.channels) long in
     search judging depth 12
