@@ -1,6 +1,6 @@
 // One chunk of the reader's walk.
 ghost use Rattle.std.specs.Prelude.{◌≡◌, ◌<◌, ◌^◌};
-ghost use Rattle.wave.specs.Walk.{judged, extra_in, values, fmt_chunk, data_chunk, found_answer};
+ghost use Rattle.wave.specs.Walk.{extra_in, values, fmt_chunk, data_chunk, found_answer};
 ghost use Rattle.wave.specs.Private.{FormatThere, met};
 
 use crate::found::{Found, Sound};
@@ -8,31 +8,7 @@ use crate::refusal::Refusal;
 use chunks::lowest::Chunk;
 use chunks::place::HEADER_LENGTH;
 use fields::number::{Lowest, number_at};
-use samples::{Channels, Format};
 use wave_values::{LONG_FMT_LENGTH, channels_of, coding_of, known_length, right};
-
-// The values beside the format and the channels are judged with these.
-#[tactic(auto, unfolding(crate::specs::Walk::judged))]
-fn judged(
-    coding: Option<Format>,
-    sides: Option<Channels>,
-    rate: u32,
-    byterate: u32,
-    block: u32,
-) -> Result<Sound, Refusal>
-    ensures { met result ≡ judged coding sides rate byterate block }
-{
-    let format = coding.ok_or(Refusal::WrongFormat)?;
-    let channels = sides.ok_or(Refusal::WrongFormat)?;
-    if !right(format, channels, rate, byterate, block) {
-        return Err(Refusal::WrongFormat);
-    }
-    Ok(Sound {
-        rate,
-        format,
-        channels,
-    })
-}
 
 // The two bytes behind the sixteen of `fmt `, and 0 where there are none.
 #[tactic(auto, unfolding(crate::specs::Walk::extra_in))]
@@ -47,7 +23,8 @@ fn extra_in(chunk: &Chunk) -> u32
     }
 }
 
-#[tactic(auto, unfolding(crate::specs::Walk::values))]
+// The values beside the format and the channels are judged with these.
+#[tactic(auto, unfolding(crate::specs::Walk::values, crate::specs::Walk::judged))]
 fn format_values(chunk: &Chunk) -> Result<Sound, Refusal>
     requires { FormatThere chunk.now.rest.now }
     ensures { met result ≡ values chunk.now.rest.now }
@@ -60,7 +37,16 @@ fn format_values(chunk: &Chunk) -> Result<Sound, Refusal>
     let block = number_at::<Lowest, 2>(rest, 20);
     let bits = number_at::<Lowest, 2>(rest, 22);
     let coding = coding_of(chunk.size(), extra_in(chunk), tag, bits);
-    judged(coding, channels_of(count), rate, byterate, block)
+    let format = coding.ok_or(Refusal::WrongFormat)?;
+    let channels = channels_of(count).ok_or(Refusal::WrongFormat)?;
+    if !right(format, channels, rate, byterate, block) {
+        return Err(Refusal::WrongFormat);
+    }
+    Ok(Sound {
+        rate,
+        format,
+        channels,
+    })
 }
 
 // What a `fmt ` chunk tells, where `seen` is the one before it.
