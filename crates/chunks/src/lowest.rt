@@ -1,35 +1,49 @@
-// Chunks whose lengths stand lowest byte first. `rest` is the front from the chunk on.
-ghost use Rattle.std.specs.Prelude.{◌≡◌, ◌+◌, ◌≤◌, length, drop};
+// Chunks whose lengths stand lowest byte first.
+ghost use Rattle.std.specs.Prelude.{◌≡◌, ◌+◌, ◌≤◌, ◌<◌, ◌^◌, length};
 ghost use Rattle.std.proofs.lemmas.List.Edits.{sets};
 ghost use Rattle.fields.specs.Bytes.{lowest};
-ghost use Rattle.chunks.specs.Walk.{header_length, chunk_header, size_in, contained, next};
+ghost use Rattle.chunks.specs.Walk.{header_length, chunk_header, size_in, named, contained, next};
 
 use crate::place::{HEADER_LENGTH, next_chunk};
 use fields::names::put_name;
 use fields::number::{Lowest, number_at, put_number};
 
-// The length that the chunk's header states.
-pub fn size_in(rest: &[u8]) -> u32
-    requires { header_length ≤ length rest.now }
-    ensures { result ≡ size_in lowest rest.now }
-{
-    number_at::<Lowest, 4>(rest, 4)
+// A chunk whose header is in the front: `rest` is the front from the chunk on.
+#[derive(Clone, Copy)]
+pub struct Chunk<'a> {
+    pub rest: &'a [u8],
+    pub ghost there: { header_length ≤ length rest.now },
 }
 
-// Whether the chunk's contents are all in the front.
-pub fn contained(rest: &[u8]) -> bool
-    requires { header_length ≤ length rest.now }
-    ensures { result ≡ contained lowest rest.now }
-{
-    HEADER_LENGTH + size_in(rest) as usize <= rest.len()
-}
+impl<'a> Chunk<'a> {
+    // The length that its header states.
+    pub fn size(&self) -> u32
+        ensures { result ≡ size_in lowest self.now.rest.now }
+    {
+        number_at::<Lowest, 4>(self.rest, 4)
+    }
 
-// Where the chunk behind the one at a place starts.
-pub fn next_after(front: &[u8], at: usize) -> usize
-    requires { at + header_length ≤ length front.now }
-    ensures { result ≡ next at (size_in lowest (drop at front.now)) }
-{
-    next_chunk(at, size_in(&front[at..]))
+    // Whether it has a name.
+    pub fn named(&self, name: &[u8; 4]) -> bool
+        ensures { result ≡ named self.now.rest.now name.now }
+    {
+        fields::names::named(self.rest, 0, name)
+    }
+
+    // Whether its contents are all in the front.
+    pub fn contained(&self) -> bool
+        ensures { result ≡ contained lowest self.now.rest.now }
+    {
+        HEADER_LENGTH + self.size() as usize <= self.rest.len()
+    }
+
+    // Where the chunk behind it starts, if it starts at a place.
+    pub fn next_after(&self, at: usize) -> usize
+        requires { at < 2 ^ 63 }
+        ensures { result ≡ next at (size_in lowest self.now.rest.now) }
+    {
+        next_chunk(at, self.size())
+    }
 }
 
 // Writes a chunk's header.

@@ -6,11 +6,11 @@ use native.Mathlib.Nat.{suc-add, zero-add}
 use native.Mathlib.Numerals.{add-one}
 use native.Mathlib.Omega.{arith}
 use lib.ListN.{length, get_or, take, drop, set, length-append, length-take, length-drop}
-use lib.Seq.{drop-nil, drop-drop, sets, sets-eq, take_at, drop_at, take-suc, get_or-drop, length-take-le}
+use lib.Seq.{drop-nil, drop-drop, sets, sets-eq, take_at, take-suc, get_or-drop, length-take-le}
 use borrow.Rule.Slice.PartMut.{put_mid}
 use Rattle.fields.specs.Bytes.{Bytes, Order, number, little, ordered, number_in, field, row}
 use Rattle.fields.proofs.Numbers.{bytes_take, bytes_drop, number_append}
-use Rattle.fields.proofs.Rows.{length-ordered, length-row, number_in-below, behind}
+use Rattle.fields.proofs.Rows.{length-ordered, length-row, number_in-below, behind, sets_whole}
 
 -- a part of a buffer is written anew
 pub part_put : (l vs : List ℕ) (at k : ℕ) → length vs ≡ k → at + k ≤ length l → put_mid at (at + k - at) l vs ≡ sets l at vs
@@ -53,36 +53,27 @@ four_bytes (a ∷ b ∷ x ∷ []) h = omega arith
 four_bytes (a ∷ b ∷ x ∷ y ∷ []) h = omega arith
 four_bytes (a ∷ b ∷ x ∷ y ∷ z ∷ s) h = absurd (omega arith)
 
--- bytes copied over zeros and turned to lowest first
+-- bytes copied over the first zeros and turned to lowest first
 module _ (order : Order) (n place : ℕ) (s read turned : List ℕ) (few : n ≤ 4) (room : place + n ≤ length s)
-    (is_read : read ≡ sets zeros 0 (take n (drop place s))) (is_turned : turned ≡ ordered order (take n read)) where
+    (is_read : read ≡ sets (take n zeros) 0 (take n (drop place s))) (is_turned : turned ≡ ordered order read) where
   long : length (take n (drop place s)) ≡ n
   long = length-take-le n (drop place s) (omega (arith, length-drop place s))
 
-  over_zeros : read ≡ take n (drop place s) ++ drop n zeros
-  over_zeros = is_read ∙ sets-eq (take n (drop place s)) zeros 0 (omega (arith, long)) ∙ ap (λ (k : ℕ). take n (drop place s) ++ drop k zeros) (omega (arith, long))
-
   in_order : turned ≡ ordered order (take n (drop place s))
-  in_order = is_turned ∙ ap (λ (r : List ℕ). ordered order (take n r)) over_zeros ∙ ap (ordered order) (take_at (take n (drop place s)) (drop n zeros) n long)
+  in_order = is_turned ∙ ap (ordered order) (is_read ∙ sets_whole (take n zeros) (take n (drop place s)) (long ∙ sym (length-take-le n zeros few)))
 
-  behind_are : drop n read ≡ drop n zeros
-  behind_are = ap (drop n) over_zeros ∙ drop_at (take n (drop place s)) (drop n zeros) n long
-
-  whole : number (turned ++ drop n read) ≡ number turned
-  whole =
-      ap (λ (r : List ℕ). number (turned ++ r)) behind_are
-      ∙ number_append turned (drop n zeros) ∙ omega (arith, ap (λ (k : ℕ). 256 ^ length turned * k) (no_more n))
+  whole : number (turned ++ drop n zeros) ≡ number turned
+  whole = number_append turned (drop n zeros) ∙ omega (arith, ap (λ (k : ℕ). 256 ^ length turned * k) (no_more n))
 
   is_field : number turned ≡ field order s place n
   unfolding field number_in
   is_field = ap number in_order
 
-  as_long : length (turned ++ drop n read) ≤ 4
+  as_long : length (turned ++ drop n zeros) ≤ 4
   as_long =
       omega (
         arith,
-        length-append turned (drop n read),
-        ap length behind_are,
+        length-append turned (drop n zeros),
         length-drop n zeros,
         ap length in_order,
         length-ordered order (take n (drop place s)),
@@ -90,9 +81,9 @@ module _ (order : Order) (n place : ℕ) (s read turned : List ℕ) (few : n ≤
       )
 
   pub number_read : (r : ℕ) →
-      r ≡ (let t = turned ++ drop n read in get_or t 0 0 + get_or t 1 0 * 256 + get_or t 2 0 * 65536 + get_or t 3 0 * 16777216) →
+      r ≡ (let t = turned ++ drop n zeros in get_or t 0 0 + get_or t 1 0 * 256 + get_or t 2 0 * 65536 + get_or t 3 0 * 16777216) →
       r ≡ field order s place n
-  number_read r e = e ∙ sym (four_bytes (turned ++ drop n read) as_long) ∙ whole ∙ is_field
+  number_read r e = e ∙ sym (four_bytes (turned ++ drop n zeros) as_long) ∙ whole ∙ is_field
 
 -- .. which is below that many powers
 pub field_below : (order : Order) (s : List ℕ) (place n : ℕ) → Bytes s → field order s place n < 256 ^ n

@@ -13,6 +13,7 @@ pub trait ByteOrder {
 
 pub struct Lowest;
 
+// AIFF's order: no reader here calls it yet, and its proofs stand.
 pub struct Highest;
 
 impl ByteOrder for Lowest {
@@ -35,11 +36,12 @@ pub fn number_at<O: ByteOrder, const N: usize>(s: &[u8], place: usize) -> u32
     ensures { (result ≡ field O.order s.now place N) × (result < 256 ^ N) }
 {
     let mut row = [0; 4];
-    // By an index: over `copy_from_slice` the bytes go through memory, and a read takes eight times as long.
-    for i in 0..N {
-        row[i] = s[place + i];
+    let front = &mut row[..N];
+    // By places: of what `iter_mut().zip(..)` wrote the library has no fact, and over `copy_from_slice` a read takes eight times as long.
+    for (i, byte) in front.iter_mut().enumerate() {
+        *byte = s[place + i];
     }
-    O::turn(&mut row[..N]);
+    O::turn(front);
     u32::from_le_bytes(row)
 }
 

@@ -44,6 +44,7 @@ fn take_all(values: &[f32], samples: &mut [i32])
     ensures { samples.new ≡ samples_of values.now }
 {
     for (i, value) in values.iter().enumerate() {
+        // Each float was judged before: the 0 is never taken.
         samples[i] = sample_from_float(*value).unwrap_or(0);
     }
 }

@@ -65,6 +65,7 @@ pub(crate) fn sample_in(bytes: &[u8], format: Format) -> i32
     match format {
         Format::Bits16 => number(256 * number_at::<Lowest, 2>(bytes, 0)),
         Format::Bits24 => number(number_at::<Lowest, 3>(bytes, 0)),
+        // The block call judged each float before: the 0 is never taken there.
         Format::Float32 => float_in(bytes).unwrap_or(0),
     }
 }

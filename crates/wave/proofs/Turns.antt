@@ -41,8 +41,8 @@ module _ (front : List ℕ) (at : ℕ) (seen : Seen) (there : at + header_length
   ended answer e =
       sym (walk_ends lowest (refused 24 0) chunk front at seen answer there (ap (λ (r : List ℕ). chunk r at seen) (sym (lent_rest front at)) ∙ e))
 
-  pub went_on : (place : ℕ) (seen_then : Seen) → place ≡ next at (size_in lowest (drop at front)) → chunk lent at seen ≡ on seen_then →
+  pub went_on : (place : ℕ) (seen_then : Seen) → place ≡ next at (size_in lowest lent) → chunk lent at seen ≡ on seen_then →
       walk lowest (refused 24 0) chunk (length front) front place seen_then ≡ walk lowest (refused 24 0) chunk (length front) front at seen
   went_on place seen_then e d =
-      ap (λ (n : ℕ). walk lowest (refused 24 0) chunk (length front) front n seen_then) e
+      ap (λ (n : ℕ). walk lowest (refused 24 0) chunk (length front) front n seen_then) (e ∙ ap (λ (r : List ℕ). next at (size_in lowest r)) (lent_rest front at))
       ∙ sym (walk_on lowest (refused 24 0) chunk front at seen seen_then there (ap (λ (r : List ℕ). chunk r at seen) (sym (lent_rest front at)) ∙ d))

@@ -1,30 +1,44 @@
-// One chunk of the reader's walk. `rest` is the front from the chunk on.
-ghost use Rattle.std.specs.Prelude.{◌≡◌, ◌≤◌, ◌<◌, ◌^◌, length};
-ghost use Rattle.chunks.specs.Walk.{header_length};
-ghost use Rattle.wave.specs.Walk.{judged, extra_in, values, fmt_chunk, data_chunk, found_answer};
+// One chunk of the reader's walk.
+ghost use Rattle.std.specs.Prelude.{◌≡◌, ◌<◌, ◌^◌};
+ghost use Rattle.wave.specs.Walk.{extra_in, values, fmt_chunk, data_chunk, found_answer};
 ghost use Rattle.wave.specs.Private.{FormatThere, met};
 
 use crate::found::{Found, Sound};
 use crate::refusal::Refusal;
-use chunks::lowest::{contained, size_in};
+use chunks::lowest::Chunk;
 use chunks::place::HEADER_LENGTH;
 use fields::number::{Lowest, number_at};
-use samples::{Channels, Format};
 use wave_values::{LONG_FMT_LENGTH, channels_of, coding_of, known_length, right};
 
-// The values beside the format and the channels are judged with these.
-#[tactic(auto, unfolding(crate::specs::Walk::judged))]
-fn judged(
-    coding: Option<Format>,
-    sides: Option<Channels>,
-    rate: u32,
-    byterate: u32,
-    block: u32,
-) -> Result<Sound, Refusal>
-    ensures { met result ≡ judged coding sides rate byterate block }
+// The two bytes behind the sixteen of `fmt `, and 0 where there are none.
+#[tactic(auto, unfolding(crate::specs::Walk::extra_in))]
+fn extra_in(chunk: &Chunk) -> u32
+    requires { FormatThere chunk.now.rest.now }
+    ensures { result ≡ extra_in chunk.now.rest.now }
 {
+    if chunk.size() == LONG_FMT_LENGTH {
+        number_at::<Lowest, 2>(chunk.rest, 24)
+    } else {
+        0
+    }
+}
+
+// The values beside the format and the channels are judged with these.
+#[tactic(auto, unfolding(crate::specs::Walk::values, crate::specs::Walk::judged))]
+fn format_values(chunk: &Chunk) -> Result<Sound, Refusal>
+    requires { FormatThere chunk.now.rest.now }
+    ensures { met result ≡ values chunk.now.rest.now }
+{
+    let rest = chunk.rest;
+    let tag = number_at::<Lowest, 2>(rest, 8);
+    let count = number_at::<Lowest, 2>(rest, 10);
+    let rate = number_at::<Lowest, 4>(rest, 12);
+    let byterate = number_at::<Lowest, 4>(rest, 16);
+    let block = number_at::<Lowest, 2>(rest, 20);
+    let bits = number_at::<Lowest, 2>(rest, 22);
+    let coding = coding_of(chunk.size(), extra_in(chunk), tag, bits);
     let format = coding.ok_or(Refusal::WrongFormat)?;
-    let channels = sides.ok_or(Refusal::WrongFormat)?;
+    let channels = channels_of(count).ok_or(Refusal::WrongFormat)?;
     if !right(format, channels, rate, byterate, block) {
         return Err(Refusal::WrongFormat);
     }
@@ -35,48 +49,19 @@ fn judged(
     })
 }
 
-// The two bytes behind the sixteen of `fmt `, and 0 where there are none.
-#[tactic(auto, unfolding(crate::specs::Walk::extra_in))]
-fn extra_in(rest: &[u8]) -> u32
-    requires { FormatThere rest.now }
-    ensures { result ≡ extra_in rest.now }
-{
-    if size_in(rest) == LONG_FMT_LENGTH {
-        number_at::<Lowest, 2>(rest, 24)
-    } else {
-        0
-    }
-}
-
-#[tactic(auto, unfolding(crate::specs::Walk::values))]
-fn format_values(rest: &[u8]) -> Result<Sound, Refusal>
-    requires { FormatThere rest.now }
-    ensures { met result ≡ values rest.now }
-{
-    let tag = number_at::<Lowest, 2>(rest, 8);
-    let count = number_at::<Lowest, 2>(rest, 10);
-    let rate = number_at::<Lowest, 4>(rest, 12);
-    let byterate = number_at::<Lowest, 4>(rest, 16);
-    let block = number_at::<Lowest, 2>(rest, 20);
-    let bits = number_at::<Lowest, 2>(rest, 22);
-    let coding = coding_of(size_in(rest), extra_in(rest), tag, bits);
-    judged(coding, channels_of(count), rate, byterate, block)
-}
-
 // What a `fmt ` chunk tells, where `seen` is the one before it.
 #[tactic(auto, using(crate::proofs::Chunks::known_long), unfolding(crate::specs::Walk::fmt_chunk, crate::specs::Walk::first))]
-pub(crate) fn format_chunk(rest: &[u8], seen: Option<Sound>) -> Result<Sound, Refusal>
-    requires { header_length ≤ length rest.now }
-    ensures { met result ≡ fmt_chunk rest.now seen }
+pub(crate) fn format_chunk(chunk: &Chunk, seen: Option<Sound>) -> Result<Sound, Refusal>
+    ensures { met result ≡ fmt_chunk chunk.now.rest.now seen }
 {
-    if !known_length(size_in(rest)) {
+    if !known_length(chunk.size()) {
         return Err(Refusal::WrongFormat);
     }
-    if !contained(rest) {
+    if !chunk.contained() {
         return Err(Refusal::CutOff);
     }
     match seen {
-        None => format_values(rest),
+        None => format_values(chunk),
         Some(_) => Err(Refusal::WrongFormat),
     }
 }

@@ -10,9 +10,8 @@ use crate::found::Found;
 use crate::refusal::Refusal;
 use answers::unit::FRONT_LENGTH;
 use chunks::form::{FORM_LENGTH, is_form};
-use chunks::lowest::{next_after, size_in};
+use chunks::lowest::Chunk;
 use chunks::place::header_in;
-use fields::names::named;
 
 // A `while`, and no iterator: each chunk states where the next one starts.
 fn walk(front: &[u8]) -> Result<Found, Refusal>
@@ -21,13 +20,13 @@ fn walk(front: &[u8]) -> Result<Found, Refusal>
     let mut at = FORM_LENGTH;
     let mut seen = None;
     while header_in(front, at) {
-        let rest = &front[at..];
-        if named(rest, 0, b"fmt ") {
-            seen = Some(format_chunk(rest, seen)?);
-        } else if named(rest, 0, b"data") {
-            return data_chunk(size_in(rest), at, seen);
+        let chunk = Chunk { rest: &front[at..] };
+        if chunk.named(b"fmt ") {
+            seen = Some(format_chunk(&chunk, seen)?);
+        } else if chunk.named(b"data") {
+            return data_chunk(chunk.size(), at, seen);
         }
-        at = next_after(front, at);
+        at = chunk.next_after(at);
     }
     Err(Refusal::CutOff)
 }

@@ -1,5 +1,4 @@
 // Why a header is refused, and the rule book's numbers for it.
-ghost use Rattle.std.specs.Prelude.{◌≡◌};
 ghost use Rattle.std.proofs.Common.{rules};
 ghost use Rattle.wave.specs.Walk.{refusal_of};
 

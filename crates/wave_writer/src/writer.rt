@@ -102,10 +102,7 @@ pub fn write(buffer: &mut [u8], rate: u32, size: u32, channels: i32) -> Result<u
     let Some(sides) = sides_of(channels) else {
         return Err(WriteError::WrongChannels);
     };
-    if size % frame_size(sides, Format::Bits24) != 0 {
-        return Err(WriteError::WrongLength);
-    }
-    if LARGEST_DATA < size {
+    if size % frame_size(sides, Format::Bits24) != 0 || LARGEST_DATA < size {
         return Err(WriteError::WrongLength);
     }
     put_header(buffer, rate, size, sides);

@@ -4,4 +4,4 @@ use Rattle.std.proofs.lemmas.List.Edits.{sets}
 use Rattle.fields.proofs.number.number_at.Given as goal
 
 abbrev pub invariant-loop-i : goal.invariant-loop-i
-invariant-loop-i g l = l.row ≡ sets l.initial.row 0 (take l.i (drop l.place l.s))
+invariant-loop-i g l = l.front ≡ sets l.initial.front 0 (take l.i (drop l.place l.s))

@@ -1,5 +1,5 @@
 -- Each turn is a step of the walk.
-use Rattle.std.proofs.Common.{◌∙◌, sym, ap, length, drop, arith, Err}
+use Rattle.std.proofs.Common.{◌∙◌, sym, ap, length, arith, Err}
 use Rattle.std.proofs.lemmas.Result.{err_from_is_err_and}
 use Rattle.answers.specs.Answer.{refused}
 use Rattle.fields.specs.Bytes.{lowest}
@@ -30,14 +30,15 @@ returns-then-named-2 c =
     let l = c.loop-seen in
     let there = header_there (length front) l.at c.header_in.result c.header_in.ensures c.loop-seen-test.true in
     ended front l.at l.seen there (found_answer c.data_chunk.result)
-    (at_data (lent front l.at l.seen there) l.at l.seen c.data_chunk.result c.size_in.result (sym c.named.ensures ∙ c.if-named.false) (sym c.named-else-named.ensures ∙ c.if-named-2.true) c.size_in.ensures c.data_chunk.ensures)
+    (at_data (lent front l.at l.seen there) l.at l.seen c.data_chunk.result c.size.result (sym c.named.ensures ∙ c.if-named.false) (sym c.named-else-named.ensures ∙ c.if-named-2.true) c.size.ensures c.data_chunk.ensures)
     ∙ l.invariant
 
 pub loop-seen-smaller : goal.loop-seen-smaller
 loop-seen-smaller c =
     let front = c.args.front.now in
-    let at = c.loop-seen.at in
-    omega (arith, c.next_after-at.ensures, next_further at (size_in lowest (drop at front)), header_there (length front) at c.header_in.result c.header_in.ensures c.loop-seen-test.true)
+    let l = c.loop-seen in
+    let there = header_there (length front) l.at c.header_in.result c.header_in.ensures c.loop-seen-test.true in
+    omega (arith, c.next_after-at.ensures, next_further l.at (size_in lowest (lent front l.at l.seen there)), there)
 
 pub loop-seen-preserved : goal.loop-seen-preserved
 loop-seen-preserved c =

@@ -9,6 +9,7 @@ use Rattle.wave_values.proofs.RightValues.{rate_small}
 use Rattle.wave_writer.specs.Header.{write_of}
 use Rattle.wave_writer.proofs.Counts.{count_allowed_lem}
 use Rattle.wave_writer.proofs.writer.write.Goals as goal
+use Rattle.wave_writer.proofs.writer.write.Goals.{then-size-frame_size-ne0-via-then-size-frame_size-ne0, then-size-frame_size-ne0-via-else-size-frame_size-ne0+then-size-gt-LARGEST_DATA}
 
 pub returns-in_default : goal.returns-in_default
 unfolding write_of
@@ -16,11 +17,15 @@ returns-in_default c = let no : within fewest_channels most_channels c.args.chan
 
 pub returns-then-size-frame_size-ne0 : goal.returns-then-size-frame_size-ne0
 unfolding write_of
-returns-then-size-frame_size-ne0 c = let is : c.args.channels ≡ pos (count_of c.in-Some.sides) = sym (to_z-of_z c.ranges.channels) ∙ c.in-Some.ensures in rw is (search (judging, dividing, count_allowed_lem) depth 12)
-
-pub returns-then-size-gt-LARGEST_DATA : goal.returns-then-size-gt-LARGEST_DATA
-unfolding write_of
-returns-then-size-gt-LARGEST_DATA c = let is : c.args.channels ≡ pos (count_of c.in-Some.sides) = sym (to_z-of_z c.ranges.channels) ∙ c.in-Some.ensures in rw is (search (judging, dividing, count_allowed_lem) depth 12)
+returns-then-size-frame_size-ne0 c =
+    let is : c.args.channels ≡ pos (count_of c.in-Some.sides) = sym (to_z-of_z c.ranges.channels) ∙ c.in-Some.ensures in
+    elim c.then-size-frame_size-ne0.branch [
+      | then-size-frame_size-ne0-via-then-size-frame_size-ne0 w ↦ let part = w.if-size-frame_size-ne0.true in rw is (search (judging, dividing, count_allowed_lem) depth 12)
+      | then-size-frame_size-ne0-via-else-size-frame_size-ne0+then-size-gt-LARGEST_DATA w ↦
+          let whole = w.if-size-frame_size-ne0.false in
+          let long = w.if-size-gt-LARGEST_DATA.true in
+          rw is (search (judging, dividing, count_allowed_lem) depth 12)
+    ]
 
 pub put_header-requires : goal.put_header-requires
 put_header-requires c = search (rules, judging, rate_small) depth 12
