@@ -1,4 +1,4 @@
-// A block's samples through the lines, side after side.
+// A block's samples through the lines, side after side. The lines are a slice with their size and position beside it: the cascade takes them so.
 ghost use Rattle.std.specs.Prelude.{◌≤◌, ◌<◌, ◌-◌, ◌*◌, ◌/◌, length};
 ghost use Rattle.frames.specs.Frames.{side_of, places_of};
 ghost use Rattle.tree.specs.Prototype.{published};
