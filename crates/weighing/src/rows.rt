@@ -31,6 +31,7 @@ fn sum_at(weights: &Weights, matrix: Matrix, i: usize) -> i64
     ensures { SumDone matrix.entry.bands i matrix.entry.rows.now weights.now.differences result }
 {
     let mut sum = 0;
+    // By b: zipped, the rows by `step_by` are cut at `top` and i, past their end where no line counts, and the differences turned round: no plainer.
     for b in (weights.low..weights.top).rev() {
         let sample = matrix.rows[ROW * (matrix.bands - 1 - b) + i];
         sum = multiply_add(sum, i64::from(weights.differences[b]), sample);

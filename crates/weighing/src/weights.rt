@@ -3,8 +3,8 @@ ghost use Rattle.std.specs.Prelude.{◌≡◌, ◌≤◌, ◌^◌, length, get_o
 ghost use Rattle.tree.specs.Signal.{gain_of};
 ghost use Rattle.weighing.specs.Helpers.{Allowed, Differ, Small, Above, Below};
 
-// The differences, lowest band first, and the lines that count: those from `low` on and before `top`. Ten places for any number of bands: memory is
-// fixed, there is no heap.
+// The differences, lowest band first, and the lines that count: those from `low` on and before `top`.
+// Ten places for any number of bands: memory is fixed, there is no heap.
 #[derive(Clone, Copy)]
 pub struct Weights {
     pub differences: [i32; 10],
