@@ -1,4 +1,4 @@
-// One side's samples through its lines, row after row.
+// One side's samples through its lines, row after row. The lines are a slice with their size and position beside it: the cascade takes them so.
 ghost use Rattle.std.specs.Prelude.{◌≡◌, ◌≤◌, ◌<◌, ◌+◌, ◌-◌, ◌*◌, ◌%◌, length};
 ghost use Rattle.frames.specs.Frames.{side as side_numbers, side_of};
 ghost use Rattle.tree.specs.Prototype.{published};
@@ -12,7 +12,7 @@ use frames::count::frames_in;
 use frames::sides::Side;
 use lines::cascade::cascade;
 use lines::row::ROW;
-use weighing::rows::{weigh_rows, weigh_with};
+use weighing::rows::{Matrix, weigh_rows, weigh_with};
 use weighing::weights::Weights;
 
 // A block of samples for the lines of so many bands: its gains, and those of a second weighing, none where none is asked for.
@@ -91,9 +91,10 @@ pub fn each_row(
         let first = side.channels * i;
         let end = side.channels * (i + n);
         side_row(lines, size, at, bands, side, n, &input[first..end], rows);
-        weigh_rows(&weights, rows, bands, side, n, &mut output[first..end]);
+        let matrix = Matrix { rows, bands, n };
+        weigh_rows(&weights, matrix, side, &mut output[first..end]);
         if twice {
-            weigh_with(others, rows, bands, side, n, &mut second[first..end]);
+            weigh_with(others, matrix, side, &mut second[first..end]);
         }
         at = wrapped(size, at + n);
         i += n;

@@ -1,4 +1,4 @@
-// A block's samples through the lines, side after side.
+// A block's samples through the lines, side after side. The lines are a slice with their size and position beside it: the cascade takes them so.
 ghost use Rattle.std.specs.Prelude.{◌≤◌, ◌<◌, ◌-◌, ◌*◌, ◌/◌, length};
 ghost use Rattle.frames.specs.Frames.{side_of, places_of};
 ghost use Rattle.tree.specs.Prototype.{published};
@@ -31,25 +31,16 @@ fn each_side<const PLACES: usize>(
 {
     let mut rows = [0; PLACES];
     let places = (block.bands - 1) * size;
-    let left = Side { channels, s: 0 };
-    let at = each_row(
-        &mut lines[..places],
-        size,
-        from,
-        block,
-        left,
-        &mut rows,
-        output,
-        second,
-    );
-    if channels == 2 {
-        let right = Side { channels, s: 1 };
-        each_row(
-            &mut lines[places..],
+    let mut at = from;
+    for s in 0..channels {
+        let first = s * places;
+        // Each side ends at the same position.
+        at = each_row(
+            &mut lines[first..first + places],
             size,
             from,
             block,
-            right,
+            Side { channels, s },
             &mut rows,
             output,
             second,

@@ -9,6 +9,7 @@ use ring::line::Ring;
 
 // The first n samples of the matrix through the lines of `bands` bands. The low row goes to the same tree with one band fewer and the stretch
 // doubled, which works only in the rest of the lines, behind this one; the low row of two bands is band 1 itself.
+// No struct of the lines or of the matrix: each level lends on all but the first line and the first row, so that it would be taken apart and made again.
 pub fn cascade(
     lines: &mut [i32],
     size: usize,

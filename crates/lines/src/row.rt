@@ -1,6 +1,6 @@
 // One line over a row, in place: the row stands first in the matrix and leaves the line's aligned row there, with the low row behind it. For
 // each sample its aligned sample and its low sample, then the store.
-ghost use Rattle.std.specs.Prelude.{◌≡◌, ◌+◌, ◌*◌, ◌-◌, min, take};
+ghost use Rattle.std.specs.Prelude.{◌≡◌, ◌+◌, ◌-◌, min, take};
 ghost use Rattle.std.proofs.Math.Seq.{slice};
 ghost use Rattle.tree.specs.Prototype.{published};
 ghost use Rattle.lines.specs.Rows.{row_places, line};

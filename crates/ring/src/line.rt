@@ -21,7 +21,7 @@ pub struct Ring {
     pub l: usize,
 }
 
-// A line before its next sample is stored.
+// A line before its next sample is stored. Its size is no length of `places`: behind its own places stand those of the lines below.
 #[derive(Clone, Copy)]
 pub struct Line<'a> {
     pub places: &'a [i32],

@@ -1,9 +1,10 @@
 // The gain differences of neighbouring bands, worked out once a block: with them the gain sum takes one product a line.
-ghost use Rattle.std.specs.Prelude.{◌≡◌, ◌≤◌, ◌+◌, ◌^◌, length, get_or, pos, nat_abs};
+ghost use Rattle.std.specs.Prelude.{◌≡◌, ◌≤◌, ◌^◌, length, get_or, pos, nat_abs};
 ghost use Rattle.tree.specs.Signal.{gain_of};
 ghost use Rattle.weighing.specs.Helpers.{Allowed, Differ, Small, Above, Below};
 
 // The differences, lowest band first, and the lines that count: those from `low` on and before `top`.
+// Ten places for any number of bands: memory is fixed, there is no heap.
 #[derive(Clone, Copy)]
 pub struct Weights {
     pub differences: [i32; 10],

@@ -11,7 +11,7 @@ pub loop-i-preserved : goal.loop-i-preserved
 loop-i-preserved c =
     let a = c.args in
     let to = a.side in
-    putting_on to.channels to.s (λ j. out_of (gain_sum a.bands a.bands j a.rows.now a.weights.now.differences)) a.output.now c.loop-i.invariant to.there a.n _ c.loop-i-test.true c.requires.5
+    putting_on to.channels to.s (λ j. out_of (gain_sum a.matrix.bands a.matrix.bands j a.matrix.rows.now a.weights.now.differences)) a.output.now c.loop-i.invariant to.there a.matrix.n _ c.loop-i-test.true c.requires.1
     (out_back (record { sfits = c.sum_at.type_inv }) (record { sfits = c.nearest-rounded.type_inv }) (record { sfits = c.limit.type_inv }) c.sum_at.ensures c.nearest-rounded.ensures c.limit.ensures)
 
 pub returns : goal.returns
@@ -20,11 +20,11 @@ returns c =
     let to = a.side in
     let l = c.loop-i in
     let ds = a.weights.now.differences in
-    let f : ℕ → ℤ = λ j. out_of (gain_sum a.bands a.bands j a.rows.now ds) in
-    let outs = side to.channels to.s a.n l.output in
+    let f : ℕ → ℤ = λ j. out_of (gain_sum a.matrix.bands a.matrix.bands j a.matrix.rows.now ds) in
+    let outs = side to.channels to.s a.matrix.n l.output in
     record {
       weighed =
-          outputs_weighed a.bands a.rows.now ds outs c.requires.0
-          (λ j h. put_here to.channels to.s f a.output.now l.invariant to.there a.n j c.loop-i-test.false (omega (arith, side-length to.channels to.s a.n l.output)));
-      others = λ t h q. put_others to.channels to.s f a.output.now l.invariant to.there a.n t h q;
+          outputs_weighed a.matrix.bands a.matrix.rows.now ds outs a.matrix.some
+          (λ j h. put_here to.channels to.s f a.output.now l.invariant to.there a.matrix.n j c.loop-i-test.false (omega (arith, side-length to.channels to.s a.matrix.n l.output)));
+      others = λ t h q. put_others to.channels to.s f a.output.now l.invariant to.there a.matrix.n t h q;
     }
