@@ -46,9 +46,7 @@ fn put(
     let fed = sides * turn.fed;
     let skipped = sides * turn.skipped;
     let written = turn.written;
-    if eqfile::samples_from(piece, run.plan.format, &mut input[..fed]).is_err() {
-        return Err(Stop::NotANumber);
-    }
+    eqfile::samples_from(piece, run.plan.format, &mut input[..fed]).map_err(|_| Stop::NotANumber)?;
     // no block of a run is refused
     let n = blocks::equalise(
         memory,
