@@ -25,7 +25,7 @@ use Rattle.runs.specs.Program.{State, Arrives, turn_at, turn_numbers, Follows, b
 use Rattle.runs.proofs.SamplesInPieces.{length_from}
 use Rattle.runs.proofs.Program.{block_accepted}
 use Rattle.eqfile.specs.declared.plan.Plan.{Plan}
-use Rattle.turning.specs.declared.place.Place.{Place}
+use Rattle.eqfile.specs.declared.place.Place.{Place}
 use Rattle.turning.specs.declared.turn.Stop.{Stop}
 use Rattle.turning.specs.declared.turn.Stop.TheVariants.{NotANumber, OutputFailed}
 use Rattle.turning.specs.Running.{state_at, Arrived, Came, Stopped, Due, PutDone, Further}
