@@ -1,11 +1,25 @@
 -- Arguments that are taken one after the other. Assumes nothing.
 use mathlib.Core.Path.{◌≡◌, refl, ap, ◌∙◌}
+use mathlib.Core.Bool.{Bool, true, false, cond}
 use mathlib.Core.List.{List, [], ◌∷◌, ◌++◌}
 use Prim.Native.Nat.{ℕ}
+use lib.Dec.{leb}
+use lib.ListN.{length}
 use lib.IntN.{ℤ}
-use Rattle.std.specs.Prelude.{Option, Some}
+use Rattle.std.specs.Prelude.{Option, Some, None}
+use Rattle.arguments.specs.Argument.{place_of, argument_of}
 use Rattle.arguments.specs.Arguments.{another, all_of}
 use Rattle.arguments.specs.Given.{OneTaken, AllTaken}
+
+-- an argument of no bytes is refused, as is one that is too long
+pub refused_one : (before : Option ℕ) (gains : List ℤ) → OneTaken before gains None gains
+unfolding another argument_of place_of
+refused_one None gains = record { text = []; is = refl }
+refused_one (Some n) gains = record { text = []; is = by (leb (length gains) n) }
+  where
+    by : (b : Bool) → (None, gains) ≡ cond {A = Option ℕ × List ℤ} b (None, gains) (None, gains)
+    by true = refl
+    by false = refl
 
 pub none_taken : (gains : List ℤ) → AllTaken gains (Some 0) gains
 unfolding all_of

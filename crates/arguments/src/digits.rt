@@ -10,7 +10,7 @@ fn up_to_24(tens: u8, ones: u8) -> Option<u8>
         return None;
     }
     let n = 10 * (tens - b'0') + (ones - b'0');
-    if n <= 24 { Some(n) } else { None }
+    (n <= 24).then_some(n)
 }
 
 // One digit or two: one digit d is 0d.

@@ -17,12 +17,12 @@ fn arg_count(rt: &impl Env) -> usize {
         .unwrap_or(usize::MAX)
 }
 
-// One argument's bytes. One that is longer than eight bytes is handed on as empty.
+// One argument's bytes. One that is longer than eight bytes is refused.
 fn another(rt: &impl Env, before: Option<usize>, i: usize, gains: &mut [i32]) -> Option<usize>
     ensures { OneTaken before gains.old result gains.new }
 {
     let mut text = [0u8; 8];
-    let n = rt.arg(i, &mut text).unwrap_or(0);
+    let n = rt.arg(i, &mut text).ok()?;
     taking::another(before, &text[..n], gains)
 }
 

@@ -1,5 +1,6 @@
 // The arguments, one after the other, lowest band first: how many were taken, or none where one is no half decibel or has no
-// place for its gain, which is refused with 30. The count stays beside the gains: the callers hand on the one or the other.
+// place for its gain, which is refused with 30.
+// The count stays beside the gains: the promise (`AllTaken`, `all_of`) tells the gains after a refusal too, and an Option of an array would have none there.
 ghost use Rattle.std.specs.Prelude.{◌≡◌};
 ghost use Rattle.arguments.specs.Arguments.{another, front_wanted};
 

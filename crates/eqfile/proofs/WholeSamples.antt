@@ -1,6 +1,6 @@
 -- The samples that are wholly there, and zeros after them. Assumes nothing.
 use mathlib.Core.Path.{◌≡◌, refl, sym, ap, ap₂, ◌∙◌}
-use mathlib.Core.Bool.{Bool, true, false, cond}
+use mathlib.Core.Bool.{Bool, true, false, cond, true≢false}
 use mathlib.Core.List.{List, [], ◌∷◌, ◌++◌, append-nil}
 use Prim.Native.Nat.{ℕ, zero, suc, ◌+◌, ◌-◌, ◌*◌, ◌/◌, ◌%◌, ◌≤◌, ◌<◌, min}
 use native.Mathlib.Nat.{mul-le-mul_right, mul-div_cancel, mul-mod_left, div-add-mod', suc-mul, add_comm}
@@ -10,7 +10,7 @@ use lib.ListN.{length, take, drop, replicate, length-take, length-drop, length-a
 use lib.Seq.{take_at, drop_at, take-take, length-take-le}
 use lib.IntN.{ℤ, pos}
 use Rattle.std.proofs.lemmas.List.{drop-take}
-use Rattle.std.specs.Prelude.{Result, Ok, Err, is_ok}
+use Rattle.std.specs.Prelude.{Result, Ok, Err, is_ok, MatchResult}
 use borrow.Rule.Slice.PartMut.{put_mid}
 use Rattle.answers.specs.Checks.{check, Outcome, Done, decide}
 use Rattle.answers.specs.First.{first_failing}
@@ -148,6 +148,11 @@ module _ (format : Format) (s : List ℕ) (samples : List ℤ) (size k : ℕ) (i
       let m : k ≡ min (length s / size_of format) (length samples) = there_is in
       ap₂ ◌++◌ (take_at last (drop k samples) k l ∙ e) (ap₂ ◌++◌ (z ∙ ap (λ (n : ℕ). replicate n (pos 0)) count) none ∙ append-nil (replicate (length samples - k) (pos 0))) ∙
       ap (λ (j : ℕ). samples_of j format s ++ replicate (length samples - j) (pos 0)) m
+
+-- what is told of a refusal holds of an answer that is one
+pub on_refusal : {A E T : Type 0} (r : Result A E) (P : A → Type 0) (Q : E → Type 0) → is_ok r ≡ false → MatchResult r P Q → ((e : E) → Q e → T) → T
+on_refusal (Ok n) P Q b c h = absurd (true≢false b)
+on_refusal (Err e) P Q b c h = h e c
 
 -- ---- what a caller learns
 

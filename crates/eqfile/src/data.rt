@@ -3,7 +3,7 @@ ghost use Rattle.answers.specs.Checks.{Done};
 ghost use Rattle.eqfile.specs.Data.{taken_from};
 
 use crate::refusal::Refusal;
-use samples::Format;
+use samples::{Format, bytes_to_samples};
 
 // The samples of a block: each that is wholly there, then zeros. If one that is there is no number, nothing is changed.
 pub fn samples_from(bytes: &[u8], format: Format, samples: &mut [i32]) -> Result<(), Refusal>
@@ -12,9 +12,7 @@ pub fn samples_from(bytes: &[u8], format: Format, samples: &mut [i32]) -> Result
     let size = format.bytes() as usize;
     let whole = (bytes.len() / size).min(samples.len());
     let there = &bytes[..whole * size];
-    if samples::bytes_to_samples(there, format, &mut samples[..whole]).is_err() {
-        return Err(Refusal::NotNumber);
-    }
+    bytes_to_samples(there, format, &mut samples[..whole]).map_err(|_| Refusal::NotNumber)?;
     samples[whole..].fill(0);
     Ok(())
 }

@@ -4,6 +4,7 @@
 
 mod data;
 mod front;
+mod place;
 mod plan;
 mod refusal;
 mod start;
@@ -11,6 +12,7 @@ mod turn;
 
 pub use data::samples_from;
 pub use front::carry;
+pub use place::Place;
 pub use plan::Plan;
 pub use refusal::Refusal;
 pub use start::begin;

@@ -4,6 +4,7 @@ ghost use Rattle.samples.specs.Channels.{count_of};
 ghost use Rattle.wave_values.specs.Values.{frame_size};
 ghost use Rattle.eqfile.specs.Turn.{all_read, wanted_of, turn_of};
 
+use crate::place::Place;
 use crate::plan::{LATE, Plan};
 use answers::unit::TURN_LIMIT;
 
@@ -18,35 +19,35 @@ pub struct Turn {
 }
 
 impl Plan {
-    // Whether all bytes of the frames before `at` were read.
-    fn all_read(self, at: usize, read: usize) -> bool
-        ensures { result ≡ all_read (frame_size (count_of self.channels) self.format) self.frames at read }
+    // Whether all bytes of the frames before the place were read.
+    fn all_read(self, place: Place) -> bool
+        ensures { result ≡ all_read (frame_size (count_of self.channels) self.format) self.frames place.at place.read }
     {
-        read == self.frame_bytes() * at.min(self.frames as usize)
+        place.read == self.frame_bytes() * place.at.min(self.frames as usize)
     }
 
-    // The bytes to read for the block at `at`: none once the data has ended.
+    // The bytes to read for the block at a place: none once the data has ended.
     #[tactic(auto, unfolding(crate::specs::Turn::wanted_of))]
-    fn wanted(self, at: usize, read: usize, fed: usize) -> usize
-        ensures { result ≡ wanted_of (frame_size (count_of self.channels) self.format) self.frames at read fed }
+    fn wanted(self, place: Place, fed: usize) -> usize
+        ensures { result ≡ wanted_of (frame_size (count_of self.channels) self.format) self.frames place.at place.read fed }
     {
-        if !self.all_read(at, read) {
+        if !self.all_read(place) {
             return 0;
         }
-        self.frame_bytes() * fed.min((self.frames as usize).saturating_sub(at))
+        self.frame_bytes() * fed.min((self.frames as usize).saturating_sub(place.at))
     }
 
-    // The turn after `at` frames were fed and `read` bytes of data were read.
+    // The next turn of a run that stands at a place.
     #[tactic(auto, unfolding(crate::specs::Turn::turn_of))]
-    pub fn next_turn(self, at: usize, read: usize) -> Turn
-        ensures { result ≡ turn_of (count_of self.channels) (frame_size (count_of self.channels) self.format) self.frames at read }
+    pub fn next_turn(self, place: Place) -> Turn
+        ensures { result ≡ turn_of (count_of self.channels) (frame_size (count_of self.channels) self.format) self.frames place.at place.read }
     {
         let count = self.channels.count() as usize;
-        let fed = TURN_LIMIT.min(self.fed_in_all().saturating_sub(at));
-        let skipped = fed.min(LATE.saturating_sub(at));
+        let fed = TURN_LIMIT.min(self.fed_in_all().saturating_sub(place.at));
+        let skipped = fed.min(LATE.saturating_sub(place.at));
         Turn {
             fed,
-            wanted: self.wanted(at, read, fed),
+            wanted: self.wanted(place, fed),
             skipped,
             written: 3 * (count * (fed - skipped)),
         }

@@ -6,7 +6,6 @@ use native.Mathlib.Omega.{arith}
 use borrow.Author.Tests.{eq-eqb}
 use mir.Syntax.{w32}
 use mir.Val.{to_z}
-use mir.Facts.{to_z_pos}
 use lib.ListN.{length, take, drop, length-replicate, replicate}
 use lib.Seq.{take_at, length-take-le}
 use lib.IntN.{ℤ, pos}
@@ -27,12 +26,7 @@ use Rattle.runs.specs.Program.{after, Followed, AllFetched}
 use Rattle.runs.proofs.Starting.{few_enough, header_accepted}
 use Rattle.eqfile.specs.declared.plan.Plan.{Plan}
 use Rattle.turning.specs.Running.{HasStarted, Running}
-
--- ---- the channels
-
--- their number, signed
-signed : (channels : Channels) {n : ℕ} → n ≡ count_of channels → to_z w32 n ≡ pos (count_of channels)
-signed channels {n} e = to_z_pos w32 (omega (arith, few_channels channels)) ∙ ap pos e
+use Rattle.turning.proofs.Places.{signed}
 
 -- ---- the header
 

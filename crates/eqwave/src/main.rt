@@ -5,7 +5,7 @@ ghost use Rattle.eqwave.specs.Started.{Before};
 
 use answers::unit::FRONT_LENGTH;
 use std::io::Read;
-use turning::place::Run;
+use turning::run::Run;
 
 mod run;
 mod say;

@@ -3,12 +3,12 @@ ghost use Rattle.turning.specs.Running.{HasStarted, Running, Stopped, Ended};
 ghost use Rattle.eqwave.specs.Started.{Comes};
 
 use crate::say;
-use eqfile::Refusal;
+use eqfile::{Place, Refusal};
 use std::io;
 use std::io::Read;
 use turning::buffers::{PLACES, places};
 use turning::output;
-use turning::place::{Place, Run};
+use turning::run::Run;
 use turning::turn::{Stop, one_turn};
 
 // As many bands as arguments.

@@ -1,3 +1,4 @@
+pub mod Places
 pub mod Fetching
 pub mod Storing
 pub mod Standing

@@ -21,7 +21,7 @@ use Rattle.runs.proofs.BlockCalls.{read-within, read_is}
 use Rattle.runs.proofs.OneMore.{after_more, followed_more, fetched_more, at_within}
 use Rattle.runs.proofs.Starting.{few_enough, start_within}
 use Rattle.eqfile.specs.declared.plan.Plan.{Plan}
-use Rattle.turning.specs.declared.place.Place.{Place}
+use Rattle.eqfile.specs.declared.place.Place.{Place}
 use Rattle.turning.specs.Running.{state_at, Running, Arrived, Came, Further, Ended}
 use Rattle.turning.proofs.Storing.{planned}
 

@@ -1,6 +1,6 @@
 -- The block of a turn is never refused, and what it stores is due. Assumes nothing.
 use mathlib.Core.Path.{◌≡◌, refl, sym, ap, subst, ◌∙◌}
-use mathlib.Core.Bool.{true, false}
+use mathlib.Core.Bool.{true}
 use mathlib.Core.List.{List, ◌++◌}
 use Prim.Native.Nat.{ℕ, ◌*◌, ◌≤◌}
 use native.Mathlib.Nat.{mul-le-mul_left}
@@ -25,7 +25,7 @@ use Rattle.runs.specs.Program.{State, Arrives, turn_at, turn_numbers, Follows, b
 use Rattle.runs.proofs.SamplesInPieces.{length_from}
 use Rattle.runs.proofs.Program.{block_accepted}
 use Rattle.eqfile.specs.declared.plan.Plan.{Plan}
-use Rattle.turning.specs.declared.place.Place.{Place}
+use Rattle.eqfile.specs.declared.place.Place.{Place}
 use Rattle.turning.specs.declared.turn.Stop.{Stop}
 use Rattle.turning.specs.declared.turn.Stop.TheVariants.{NotANumber, OutputFailed}
 use Rattle.turning.specs.Running.{state_at, Arrived, Came, Stopped, Due, PutDone, Further}
@@ -80,18 +80,21 @@ module _ {plan : Plan} {gains : List ℤ} {front : List ℕ} {place : Place} {me
           taken_answer_lem piece plan.format (take (n * turn.fed) (replicate turn_room (pos 0))) r xs d ∙ ap (λ (k : ℕ). numbers_from k plan.format piece) input_long ∙
           (λ i. numbers_from (sides i * (arrived.turn_is i).fed) plan.format piece)
 
-      pub stopped : is_ok r ≡ false → Stopped plan gains front
-      stopped e = record { place = place; memory = memory; turn = turn; piece = piece; arrived = arrived; bad = sym numbers_are ∙ e }
+      -- the code asks the same with another error
+      module _ {m : Result (Unit {0}) Stop} (same : is_ok m ≡ is_ok r) where
+        pub stopped : {stop : Stop} → m ≡ Err stop → Stopped plan gains front
+        stopped e = record { place = place; memory = memory; turn = turn; piece = piece; arrived = arrived; bad = sym numbers_are ∙ sym same ∙ ap is_ok e }
 
-      pub read : is_ok r ≡ true → Read plan gains front place memory turn piece n xs
-      read e =
-          record {
-            came = record { arrived = arrived; numbers = sym numbers_are ∙ e };
-            sides = sides;
-            is =
-                taken-samples piece plan.format (take (n * turn.fed) (replicate turn_room (pos 0))) r xs d e ∙
-                ap (λ (k : ℕ). samples_from k plan.format piece) input_long;
-          }
+        pub read : {done : Unit {0}} → m ≡ Ok done → Read plan gains front place memory turn piece n xs
+        read e =
+            let numbers : is_ok r ≡ true = sym same ∙ ap is_ok e in
+            record {
+              came = record { arrived = arrived; numbers = sym numbers_are ∙ numbers };
+              sides = sides;
+              is =
+                  taken-samples piece plan.format (take (n * turn.fed) (replicate turn_room (pos 0))) r xs d numbers ∙
+                  ap (λ (k : ℕ). samples_from k plan.format piece) input_long;
+            }
 
 module _ {plan : Plan} {gains : List ℤ} {front : List ℕ} {place : Place} {memory : List ℤ} {turn : Turn} {piece : List ℕ} {n : ℕ} {xs : List ℤ}
     (all : Read plan gains front place memory turn piece n xs) where

@@ -5,7 +5,7 @@ use Rattle.eqfile.specs.Turn.{fed_in_all}
 use Rattle.runs.specs.Program.{State, fresh, Arrives, handed, turn_at, turn_numbers, block_done, after, Followed, ByPlan, Fetched, AllFetched}
 use Rattle.runs.specs.Started.{Started}
 use Rattle.eqfile.specs.declared.plan.Plan.{Plan}
-use Rattle.turning.specs.declared.place.Place.{Place}
+use Rattle.eqfile.specs.declared.place.Place.{Place}
 use Rattle.turning.specs.declared.turn.Stop.{Stop}
 use Rattle.turning.specs.declared.turn.Stop.TheVariants.{NotANumber, OutputFailed}
 

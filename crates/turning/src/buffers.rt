@@ -5,20 +5,20 @@ ghost use Rattle.octave.specs.Memory.{memory_length};
 ghost use Rattle.arguments.specs.Arguments.{bands};
 
 use answers::unit::TURN_ROOM;
+use arguments::BANDS;
+use octave::memory::memory_length;
 use samples::Channels;
 
 // Four bytes for each sample of a block: as many as a format has at most.
 pub const BYTES: usize = 4 * TURN_ROOM;
-// The places of a line memory before those of its sides.
-const HEAD: usize = 3;
-// .. and those of each side, with eight bands.
-const SIDE: usize = 8064;
-// .. and all of two channels, which serve any run.
-pub const PLACES: usize = HEAD + 2 * SIDE;
+// All places of two channels' line memory, which serve any run. An array's length is a constant, so the number stands here: the proof of the
+// program's first turn holds it to `memory_length`.
+pub const PLACES: usize = 16131;
 
 // How many of them a file's channels take.
 pub fn places(channels: Channels) -> usize
     ensures { result ≡ memory_length bands (count_of channels) }
 {
-    HEAD + channels.count() as usize * SIDE
+    // eight bands, and one channel or two, are allowed
+    memory_length(BANDS as i32, channels.count() as i32).unwrap()
 }

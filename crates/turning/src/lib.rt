@@ -5,5 +5,5 @@
 pub mod buffers;
 pub mod input;
 pub mod output;
-pub mod place;
+pub mod run;
 pub mod turn;

@@ -5,7 +5,7 @@ ghost use Rattle.chunks.specs.Walk.{pad};
 ghost use Rattle.wave_writer.specs.Header.{header};
 ghost use Rattle.turning.specs.Running.{Due, Ended};
 
-use crate::place::Run;
+use crate::run::Run;
 use eqfile::Plan;
 use std::io;
 
@@ -24,6 +24,7 @@ pub fn hand(rt: &impl Print, bytes: &[u8], run: Run) -> io::Result<()>
 }
 
 // The pad of a run that has ended: a zero byte behind odd data, nothing behind even data. It fails where standard output does not take it.
+// `Ended` stays a clause: it speaks of `read` too, which no run has before its end.
 pub fn hand_pad(rt: &impl Print, bytes: &[u8], run: Run, read: usize) -> io::Result<()>
     requires ended { Ended run.plan run.gains.now run.front.now read }
     requires bytes_value { bytes.now ≡ pad (3 * (count_of run.plan.channels * run.plan.frames)) }

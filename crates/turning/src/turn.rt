@@ -4,10 +4,10 @@ ghost use Rattle.turning.specs.declared.turn.Stop.TheVariants.{OutputFailed};
 ghost use Rattle.turning.specs.Running.{Running, Arrived, PutDone, Further};
 
 use crate::buffers::BYTES;
-use crate::place::{Place, Run};
+use crate::run::Run;
 use crate::{input, output};
 use answers::unit::TURN_ROOM;
-use eqfile::Turn;
+use eqfile::{Place, Turn};
 use std::io;
 use std::io::Read;
 
@@ -46,9 +46,7 @@ fn put(
     let fed = sides * turn.fed;
     let skipped = sides * turn.skipped;
     let written = turn.written;
-    if eqfile::samples_from(piece, run.plan.format, &mut input[..fed]).is_err() {
-        return Err(Stop::NotANumber);
-    }
+    eqfile::samples_from(piece, run.plan.format, &mut input[..fed]).map_err(|_| Stop::NotANumber)?;
     // no block of a run is refused
     let n = blocks::equalise(
         memory,
@@ -73,7 +71,7 @@ pub fn one_turn(
     requires { Running run.plan run.gains.now run.front.now place memory.old }
     ensures { Further run.entry.plan run.entry.gains.now run.entry.front.now place result memory.new }
 {
-    let turn = run.plan.next_turn(place.at, place.read);
+    let turn = run.plan.next_turn(place);
     let mut bytes = [0; BYTES];
     let wanted = turn.wanted;
     let fed = turn.fed;
