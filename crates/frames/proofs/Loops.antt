@@ -1,7 +1,8 @@
 -- Loops that take a side out of frames, or put it back. Assumes nothing.
-use mathlib.Core.Path.{◌≡◌, sym, ◌∙◌}
+use mathlib.Core.Path.{◌≡◌, refl, sym, ◌∙◌}
 use mathlib.Core.List.{List, ◌++◌, append-nil}
 use Prim.Native.Nat.{ℕ, ◌+◌, ◌-◌, ◌*◌, ◌≤◌, ◌<◌}
+use native.Mathlib.Nat.{mul-zero, sub-zero}
 use native.Mathlib.Numerals.{add-one}
 use native.Mathlib.Decide.{dec_lt}
 use native.Mathlib.Omega.{arith}
@@ -20,6 +21,9 @@ pub record Gathering (c s n : ℕ) (block row₀ row : List ℤ) (i : ℕ) : Typ
   pub rest : take i row ++ side c s (n - i) (drop (c * i) block) ≡ side c s n block
 
 module _ (c s n : ℕ) (block row₀ : List ℤ) where
+  pub gathering_starts : Gathering c s n block row₀ row₀ 0
+  gathering_starts = record { reached = omega arith; same_row = refl; rest = rw (mul-zero c, sub-zero n) refl }
+
   module _ (row : List ℤ) (i : ℕ) (g : Gathering c s n block row₀ row i) where
     pub gathering_on : i < n → n ≤ length row₀ → Gathering c s n block row₀ (set row i (get_or block (c * i + s) (pos 0))) (i + 1)
     gathering_on h room =

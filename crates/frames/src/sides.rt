@@ -10,19 +10,27 @@ pub struct Side {
     pub ghost there: { s < channels },
 }
 
+// The numbers at place s of frames of CHANNELS numbers. A stride that is known lets the compiler take four numbers at a time, and
+// a loop, for which C callers need no `memmove`, is as fast as the library's copy.
+fn take_side<const CHANNELS: usize>(block: &[i32], s: usize, row: &mut [i32])
+    requires { (s < CHANNELS) × (length block.now ≡ CHANNELS * length row.old) }
+    ensures { row.new ≡ side CHANNELS s (length row.old) block.now }
+{
+    for (i, place) in row.iter_mut().enumerate() {
+        *place = block[CHANNELS * i + s];
+    }
+}
+
 impl Side {
-    // The numbers of this side of n frames, at the front of the row. Strides that are known, of one and of two, let the compiler take four numbers at a time.
+    // The numbers of this side of n frames, at the front of the row.
     pub fn gather(self, block: &[i32], n: usize, row: &mut [i32])
         requires { (length block.now ≡ self.channels * n) × (n ≤ length row.old) × (self.channels ≤ 2) }
         ensures { take n row.new ≡ side self.channels self.s n block.now }
     {
-        let front = &mut row[..n];
         if self.channels == 1 {
-            front.copy_from_slice(block);
-            return;
-        }
-        for (i, place) in front.iter_mut().enumerate() {
-            *place = block[2 * i + self.s];
+            take_side::<1>(block, self.s, &mut row[..n]);
+        } else {
+            take_side::<2>(block, self.s, &mut row[..n]);
         }
     }
 }
