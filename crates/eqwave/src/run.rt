@@ -44,7 +44,7 @@ fn put_header(rt: &impl Print, run: Run) -> io::Result<()>
     output::hand_header(rt, &header, run.plan)
 }
 
-// Every turn. Answers how many bytes of data were read.
+// Every turn. Answers how many bytes of data were read. The handles stay beside the run, as the library's own functions take them.
 fn turns(
     rt: &impl Print,
     stdin: &mut impl Read,

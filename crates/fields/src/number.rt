@@ -45,7 +45,7 @@ pub fn number_at<O: ByteOrder, const N: usize>(s: &[u8], place: usize) -> u32
     u32::from_le_bytes(row)
 }
 
-// Writes the N bytes of a number at a place.
+// Writes the N bytes of a number at a place. By its place in the buffer, as the headers are written (`sets`): a slice from there on would be cut anew for each.
 pub fn put_number<O: ByteOrder, const N: usize>(buffer: &mut [u8], at: usize, n: u32)
     requires { (at + N ≤ length buffer.old) × ((N ≤ 4) × (n < 256 ^ N)) }
     ensures { buffer.new ≡ sets buffer.old at (row O.order N n) }

@@ -10,8 +10,8 @@ pub struct Side {
     pub ghost there: { s < channels },
 }
 
-// The numbers at place s of frames of CHANNELS numbers. A stride that is known lets the compiler take four numbers at a time, and
-// a loop, for which C callers need no `memmove`, is as fast as the library's copy.
+// The numbers at place s of frames of CHANNELS numbers. A stride that is known lets the compiler take four numbers at a time. A loop also for one channel:
+// over the library's copy the archive would need `memmove`, which its header does not name.
 fn take_side<const CHANNELS: usize>(block: &[i32], s: usize, row: &mut [i32])
     requires { (s < CHANNELS) × (length block.now ≡ CHANNELS * length row.old) }
     ensures { row.new ≡ side CHANNELS s (length row.old) block.now }
@@ -22,7 +22,7 @@ fn take_side<const CHANNELS: usize>(block: &[i32], s: usize, row: &mut [i32])
 }
 
 impl Side {
-    // The numbers of this side of n frames, at the front of the row.
+    // The numbers of this side of n frames, at the front of the row. n is handed on beside the block: it is known, and to work it out is a division.
     pub fn gather(self, block: &[i32], n: usize, row: &mut [i32])
         requires { (length block.now ≡ self.channels * n) × (n ≤ length row.old) × (self.channels ≤ 2) }
         ensures { take n row.new ≡ side self.channels self.s n block.now }

@@ -7,7 +7,8 @@ use block_sides::run::run;
 
 // The samples through the lines from the position on, and the position afterwards; the output under `gains`, and in the same pass, where there are
 // other gains, a second one under these. Without a second weighing its slices are empty.
-// Each gains and their output are handed on as `run` takes them: a pair, or an Option of one, would be taken apart again in each function below.
+// Each gains and their output are handed on as `run` takes them: a pair, or an Option of one, would be taken apart again in each function below. So would the memory with
+// its counts, since what is judged (`Judged`) speaks of the gains and the lengths too.
 pub fn pass(
     memory: &mut [i32],
     gains: &[i32],

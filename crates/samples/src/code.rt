@@ -1,4 +1,4 @@
-// A sample's code: the 24 bits of its two's complement, as a number below 2 ^ 24.
+// A sample's code: the 24 bits of its two's complement, as a number below 2 ^ 24. No type has 24 bits, so no method of the library converts it.
 ghost use Rattle.std.specs.Prelude.{◌≡◌, ◌<◌, ◌^◌, true};
 ghost use Rattle.answers.specs.Range.{within};
 ghost use Rattle.answers.specs.Unit.{least_sample, most_sample};

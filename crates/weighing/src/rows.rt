@@ -51,7 +51,8 @@ pub fn weigh_rows(weights: &Weights, matrix: Matrix, side: Side, output: &mut [i
     }
 }
 
-// .. and with gains, whose differences are worked out for this row alone.
+// .. and with gains, whose differences are worked out for this row alone. That they are allowed is asked here and not in a type: of other gains it is known
+// only where there are any (`Second`).
 pub fn weigh_with(gains: &[i32], matrix: Matrix, side: Side, output: &mut [i32])
     requires { Allowed matrix.bands gains.now × (length output.old ≡ side.channels * matrix.n) }
     ensures { WeighedUnder side.channels side.s matrix.entry.n matrix.entry.bands (gain_of gains.now) matrix.entry.rows.now output.old output.new }
