@@ -15,7 +15,8 @@ use lines::row::ROW;
 use weighing::rows::{Matrix, weigh_rows, weigh_with};
 use weighing::weights::Weights;
 
-// A block of samples for the lines of so many bands: its gains, and those of a second weighing, none where none is asked for.
+// A block of samples for the lines of so many bands: its gains, and those of a second weighing, none where none is asked for: an Option of them would leave
+// the second output, which is lent to be written, an Option of its own beside it.
 #[derive(Clone, Copy)]
 pub struct Block<'a> {
     pub bands: usize,

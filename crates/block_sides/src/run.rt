@@ -34,7 +34,7 @@ fn each_side<const PLACES: usize>(
     let mut at = from;
     for s in 0..channels {
         let first = s * places;
-        // Each side ends at the same position.
+        // By s: a side is a part of the lines and a place in every frame. Each ends at the same position.
         at = each_row(
             &mut lines[first..first + places],
             size,
@@ -49,7 +49,7 @@ fn each_side<const PLACES: usize>(
     at
 }
 
-// Every sample of the block, from the position `from`; answers the position afterwards. Its parameters are the block call's own; below they are a `Block`.
+// Every sample of the block, from the position `from`; answers the position afterwards. Its parameters are what the call was lent; the `Block` of them is made here alone.
 pub fn run(
     lines: &mut [i32],
     size: usize,

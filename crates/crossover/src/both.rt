@@ -6,7 +6,7 @@ ghost use Rattle.crossover.specs.Helpers.{FromOn, Ready};
 use octave::counts::Counts;
 use octave::pass::pass;
 
-// The gains from place `from` on, each in its place; 0 before it.
+// The gains from place `from` on, each in its place; 0 before it. Ten places, since memory is fixed.
 fn from_on(gains: &[i32], from: usize) -> [i32; 10]
     requires { (from ≤ length gains.now) × (length gains.now ≤ 10) }
     ensures { FromOn from gains.now result }

@@ -74,6 +74,7 @@ pub fn cross(
     if gains.len() != counts.bands() {
         return Err(CrossError::GainCount);
     }
+    // The split, 10, is judged between the gains' number and their range: no judge of gains is shared with the block call.
     let s = match usize::try_from(split) {
         Ok(s) if (1..gains.len()).contains(&s) => s,
         _ => return Err(CrossError::Split),

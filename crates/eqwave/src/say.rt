@@ -15,7 +15,7 @@ pub(crate) fn refused(rt: &impl Eprint, refusal: Refusal) {
     line(rt, "refused ", &refusal.refused().number);
 }
 
-// The system's words, without the number that stands behind them.
+// The system's words, without the number that stands behind them. They end at a zero: how much `write!` filled no contract tells.
 fn reason(text: &[u8]) -> &str {
     let all = std::str::from_utf8(text).unwrap_or("");
     match all.split_once(" (os error ") {

@@ -16,6 +16,7 @@ fn take_side<const CHANNELS: usize>(block: &[i32], s: usize, row: &mut [i32])
     requires { (s < CHANNELS) × (length block.now ≡ CHANNELS * length row.old) }
     ensures { row.new ≡ side CHANNELS s (length row.old) block.now }
 {
+    // By places: of what `iter_mut().zip(..)` wrote the library has no fact.
     for (i, place) in row.iter_mut().enumerate() {
         *place = block[CHANNELS * i + s];
     }

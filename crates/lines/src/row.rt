@@ -22,6 +22,7 @@ fn part<const BACK: usize, const ROUND: usize>(
     requires { Part published lines.old ring.size ring.at ring.l from to rows.old × Between BACK ROUND ring.l ring.at from to }
     ensures { LineDone (line published ring.size ring.l (ring.at + from) lines.old (slice from to (take row_places rows.old))) from to rows.old lines.new rows.new }
 {
+    // By places: two rows and the line are read and written at once, and of what `iter_mut().zip(..)` wrote the library has no fact.
     for i in from..to {
         let x = rows[i];
         let at = ring.at + i;

@@ -1,4 +1,5 @@
-// What standard output is handed. No other file names it. Each call requires that the bytes are those of the run.
+// What standard output is handed. No other file names it. Each of the three requires other bytes, so that they are no one function: the
+// header of a plan, what the block of a turn stores, the pad of a run that has ended.
 ghost use Rattle.std.specs.Prelude.{◌≡◌, ◌*◌};
 ghost use Rattle.samples.specs.Channels.{count_of};
 ghost use Rattle.chunks.specs.Walk.{pad};

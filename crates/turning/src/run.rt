@@ -2,7 +2,7 @@
 use eqfile::Plan;
 
 // The plan of a run, the gains of its arguments, and the front of its file.
-// `HasStarted` stays a clause: `Running` and `Ended` carry it for the theorems, so that an invariant here would only tell it a second time.
+// That it has started stays a clause: `Running` and `Ended` say so of some rate for the theorems, and an invariant here would ask more of who hands on a block.
 #[derive(Clone, Copy)]
 pub struct Run<'a> {
     pub plan: Plan,

@@ -9,7 +9,7 @@ pub struct Sound {
     pub channels: Channels,
 }
 
-// The samples of a file: `size` bytes of them start at `start`. No `Sound` within: C and the theorems name each field by itself.
+// The samples of a file: `size` bytes of them start at `start`. No `Sound` within: the theorems of the reader speak of these five fields.
 #[derive(Clone, Copy, Debug, PartialEq, Eq)]
 pub struct Found {
     pub rate: u32,
