@@ -44,7 +44,7 @@ no_more (suc (suc zero)) = refl
 no_more (suc (suc (suc zero))) = refl
 no_more (suc (suc (suc (suc n)))) = ap number (drop-nil n)
 
-four_bytes : (s : List ℕ) → length s ≤ 4 → number s ≡ get_or s 0 0 + get_or s 1 0 * 256 + get_or s 2 0 * 65536 + get_or s 3 0 * 16777216
+pub four_bytes : (s : List ℕ) → length s ≤ 4 → number s ≡ get_or s 0 0 + get_or s 1 0 * 256 + get_or s 2 0 * 65536 + get_or s 3 0 * 16777216
 unfolding number
 four_bytes [] h = refl
 four_bytes (a ∷ []) h = omega arith
