@@ -42,7 +42,8 @@ fn unsigned(gained: Result<i32, GainError>) -> Result<u32, Refused>
 }
 
 fn write(rt: &impl Print, command: Command) -> io::Result<()> {
-    told(rt, unsigned(gain::gain(command)))?;
+    let answer = unsigned(gain::gain(command));
+    told(rt, answer.map_err(|refused| refused.number))?;
     println!(rt)
 }
 

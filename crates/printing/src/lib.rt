@@ -4,15 +4,17 @@
 
 pub mod places;
 
-use answers::refused::Refused;
 use std::fmt::Display;
 use std::io;
 
-// `accepted` and the value that a call answered, or `refused` and the number of its refusal.
+// `accepted` and the value that a call answered, or `refused` and the number of its refusal, both of any size.
 // eqwave's `say::refused` prints the word too: a Display in answers would be longer than both lines.
-pub fn told<T: Copy + Display>(rt: &impl Print, answer: Result<T, Refused>) -> io::Result<()> {
+pub fn told<T: Copy + Display, N: Copy + Display>(
+    rt: &impl Print,
+    answer: Result<T, N>,
+) -> io::Result<()> {
     match answer {
         Ok(n) => print!(rt; " accepted {n}"),
-        Err(refused) => print!(rt; " refused {}", refused.number),
+        Err(number) => print!(rt; " refused {number}"),
     }
 }

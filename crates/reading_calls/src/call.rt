@@ -1,6 +1,7 @@
 // One call, told: what is asked, what is answered, and how many lent places have changed.
 use crate::answer::answer;
-use crate::lists::Lists;
+use crate::lists::{Before, Lists};
+use answers::refused::Refused;
 use cases::words::{place, word};
 use octave::block::block;
 use octave::memory::{memory_length, prepare};
@@ -15,15 +16,26 @@ fn counts(cases: &mut impl Read) -> (i32, i32) {
 }
 
 // The first so many places.
-fn first<'a>(cases: &mut impl Read, s: &'a mut [i32]) -> &'a mut [i32] {
+fn first<'a>(cases: &mut impl Read, s: &'a [i32]) -> &'a [i32] {
+    let n = front(word(cases) as usize, s);
+    &s[..n]
+}
+
+// .. of a list that is lent to be written.
+fn first_mut<'a>(cases: &mut impl Read, s: &'a mut [i32]) -> &'a mut [i32] {
     let n = front(word(cases) as usize, s);
     &mut s[..n]
+}
+
+// An answer with its refusal's number.
+fn tell(rt: &impl Print, answered: Result<usize, Refused>) -> io::Result<()> {
+    told(rt, answered.map_err(|refused| refused.number))
 }
 
 pub fn length(rt: &impl Print, cases: &mut impl Read) -> io::Result<()> {
     let (bands, channels) = counts(cases);
     print!(rt; "length {bands} {channels}")?;
-    told(rt, answer(memory_length(bands, channels)))?;
+    tell(rt, answer(memory_length(bands, channels)))?;
     println!(rt)
 }
 
@@ -31,14 +43,14 @@ pub fn length(rt: &impl Print, cases: &mut impl Read) -> io::Result<()> {
 pub fn prepared(
     rt: &impl Print,
     cases: &mut impl Read,
-    lists: &mut Lists,
-    before: &Lists,
+    memory: &mut [i32],
+    before: &[i32],
 ) -> io::Result<()> {
     let (bands, channels) = counts(cases);
-    let memory = first(cases, &mut lists.memory);
+    let memory = first_mut(cases, memory);
     print!(rt; "prepare {bands} {channels}")?;
-    told(rt, answer(prepare(bands, channels, memory)))?;
-    compared(rt, memory, &before.memory)?;
+    tell(rt, answer(prepare(bands, channels, memory)))?;
+    compared(rt, memory, before)?;
     println!(rt)
 }
 
@@ -62,18 +74,24 @@ fn lent(
 pub fn blocked(
     rt: &impl Print,
     cases: &mut impl Read,
-    lists: &mut Lists,
-    before: &Lists,
+    lists: Lists,
+    before: Before,
 ) -> io::Result<()> {
-    let memory = first(cases, &mut lists.memory);
-    let gains = first(cases, &mut lists.gains);
-    let input = first(cases, &mut lists.input);
-    let output = first(cases, &mut lists.output);
+    let Lists {
+        memory,
+        gains,
+        input,
+        output,
+    } = lists;
+    let memory = first_mut(cases, memory);
+    let gains = first(cases, gains);
+    let input = first(cases, input);
+    let output = first_mut(cases, output);
     lent(rt, memory, gains, input, output)?;
     let answered = answer(block(memory, gains, input, output));
-    told(rt, answered)?;
+    tell(rt, answered)?;
     print!(rt; " {}", answered.err().map_or(0, |refused| refused.place))?;
-    compared(rt, memory, &before.memory)?;
-    compared(rt, output, &before.output)?;
+    compared(rt, memory, before.memory)?;
+    compared(rt, output, before.output)?;
     println!(rt)
 }

@@ -1,9 +1,14 @@
-// The lists that the calls are lent. The memory has as many places as the layout would give to eleven bands of one channel; input and
-// output have one frame more than a block of two channels may have.
+// What a block call is lent, of any lengths, and what the lists that it may change held before.
+#[derive(Drop)]
+pub struct Lists<'a> {
+    pub memory: &'a mut [i32],
+    pub gains: &'a [i32],
+    pub input: &'a [i32],
+    pub output: &'a mut [i32],
+}
+
 #[derive(Clone, Copy)]
-pub struct Lists {
-    pub memory: [i32; 92163],
-    pub gains: [i32; 10],
-    pub input: [i32; 8194],
-    pub output: [i32; 8194],
+pub struct Before<'a> {
+    pub memory: &'a [i32],
+    pub output: &'a [i32],
 }
