@@ -16,4 +16,7 @@ def products(name):
     return body.count('{"Mul": "Signed"}') + sum(products(called) for called in re.findall(r'"Fn": \["([^"]+)"', body))
 
 
-print(f"a line's low sample: {products('ring::line::Line::low')} products as the compiler is handed them")
+low = "ring::line::Line::low"
+if low not in bodies:
+    sys.exit(f"{low} is not in these files")
+print(f"a line's low sample: {products(low)} products as the compiler is handed them")
